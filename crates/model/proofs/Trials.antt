@@ -1,0 +1,13 @@
+-- Every row of 01's table holds of the definitions, by computing both sides.
+use mathlib.Core.Path.{refl}
+use Rattle.model.specs.Set.{has, someBelow, unionBelow}
+use Rattle.model.specs.Automaton.{next}
+use Rattle.model.specs.Passes.{reach, after, before, letters, rounds, first, fewest, forward, backward, pruned, final, kept, narrowed, entries}
+use Rattle.model.specs.NormalForm.{dropped, join, joined, normal}
+use Rattle.model.specs.Verdict.{answer, single, every, verdict}
+use Rattle.model.specs.Trials.{AllHold, rows}
+
+pub trials : AllHold rows
+unfolding has someBelow unionBelow next reach after before letters rounds first fewest forward backward pruned final kept narrowed entries dropped join joined normal answer single every verdict rows
+trials =
+    ((refl, refl), ((refl, refl), ((refl, refl), ((refl, refl), ((refl, refl), (refl, (refl, ((refl, refl), (refl, ((refl, refl), tt))))))))))

@@ -1,0 +1,35 @@
+-- Demand 3 (01, "What the promises hold"): one claim about a book and a whole mask with any number of blocks.
+use Prim.Native.Nat.{ℕ, suc, _-_, _<_}
+use mathlib.Core.Path.{_≡_}
+use mathlib.Core.Logic.{_↔_}
+use mathlib.Core.List.{List, [], flatten}
+use lib.ListN.{length, getD}
+use Rattle.model.specs.declared.Block.{Block}
+use Rattle.model.specs.declared.Verdict.{Verdict}
+use Rattle.model.specs.declared.Verdict.the-variants.{None, All}
+use Rattle.model.specs.Set.{Member}
+use Rattle.model.specs.DashedString.{block, Factorization, Matches}
+use Rattle.model.specs.Automaton.{Dfa, Accepts}
+use Rattle.model.specs.Legal.{Legal}
+
+-- some legal code, in some cut, has the property
+abbrev pub Has : Dfa → List Block → (List (List ℕ) → Type 0) → Type 0
+Has b xs P = (ps : List (List ℕ)) × Factorization xs ps × Accepts b (flatten ps) × P ps
+
+-- the cut has the letter c in place j of block i, both from 1 (64 is no letter)
+abbrev pub Puts : ℕ → ℕ → ℕ → List (List ℕ) → Type 0
+Puts c i j ps = getD (getD ps (i - 1) []) (j - 1) 64 ≡ c
+
+-- of a verdict, a narrowed mask and a set for each place of each block, what demand 3 says
+pub record Demand3 (b : Dfa) (xs : List Block) (v : Verdict) (ys : List Block) (set : ℕ → ℕ → ℕ) : Type 0 where
+  -- none exactly when no code of the mask is legal
+  pub none : (v ≡ None) ↔ ((w : List ℕ) → ¬ Legal b xs w)
+  -- all exactly when it has a code and all are legal
+  pub all : (v ≡ All) ↔ (((w : List ℕ) × Matches xs w) × ((w : List ℕ) → Matches xs w → Legal b xs w))
+  -- every legal code is still spelled
+  pub keeps : (w : List ℕ) → Legal b xs w → Matches ys w
+  -- nothing new is spelled (for none there is no narrowed mask)
+  pub adds : ¬ (v ≡ None) → (w : List ℕ) → Matches ys w → Matches xs w
+  -- a letter stands in a mandatory place exactly when some legal code, in some cut, has it there
+  pub places : (i j c : ℕ) → i < length xs → j < getD xs i (block 0 0 0) .lower
+      → Member c (set (suc i) (suc j)) ↔ Has b xs (Puts c (suc i) (suc j))

@@ -1,0 +1,99 @@
+-- The passes (01, "The passes", steps 1 to 5). 01 goes block by block and, in a block, over its places 1 to l and then
+-- its optional part. Here these stand in one row of segments, and each pass is one recursion over the row.
+use Prim.Native.Nat.{ℕ, zero, suc, _-_, _^_}
+use mathlib.Core.Bool.{Bool, true, false}
+use mathlib.Core.List.{List, [], _∷_}
+use Rattle.model.specs.declared.Block.{Block}
+use Rattle.model.specs.Set.{has, both, either, someMember, members, unionOf}
+use Rattle.model.specs.DashedString.{block}
+use Rattle.model.specs.Automaton.{Table, Dfa, next}
+
+-- a mandatory place with letters of S; an optional part of at most w letters of S
+pub data Segment : Type 0 where
+  mandatory : ℕ → Segment
+  optional : ℕ → ℕ → Segment
+
+-- l mandatory places, and then the rest
+abbrev pub places : ℕ → ℕ → List Segment → List Segment
+places S zero rest = rest
+places S (suc l) rest = mandatory S ∷ places S l rest
+
+-- the places and the optional part of each block, in order
+abbrev pub segments : List Block → List Segment
+segments [] = []
+segments (x ∷ xs) = places (x .base) (x .lower) (optional (x .base) (x .upper - x .lower) ∷ segments xs)
+
+-- the states after one letter of S from the state q
+unfoldable pub reach : Table → ℕ → ℕ → ℕ
+reach t S q = unionOf S (λ c. 2 ^ next t q c)
+
+-- step 1: the states after one letter of S from states of Q, the dead state among them
+unfoldable pub after : Table → ℕ → ℕ → ℕ
+after t S Q = unionOf Q (reach t S)
+
+-- step 5: the states of Q from which some move by a letter of S goes to E
+unfoldable pub before : Table → ℕ → ℕ → ℕ → ℕ
+before t S Q E = members Q (λ q. someMember S (λ c. has E (next t q c)))
+
+-- steps 4 and 5: the letters of S by which some move goes from a state of Q to a state of E
+unfoldable pub letters : Table → ℕ → ℕ → ℕ → ℕ
+letters t S Q E = members S (λ c. someMember Q (λ q. has E (next t q c)))
+
+-- Q, and k times what f adds to it
+unfoldable pub rounds : (ℕ → ℕ) → ℕ → ℕ → ℕ
+rounds f Q zero = Q
+rounds f Q (suc k) = let P = rounds f Q k in either P (f P)
+
+-- step 1, R: the states reached from Q by at most w letters of S
+abbrev pub atMost : Table → ℕ → ℕ → ℕ → ℕ
+atMost t S Q w = rounds (after t S) Q w
+
+-- step 3, b by its levels: the states q with b(q) ≤ d, from which at most d letters of S lead to E through states of R
+abbrev pub toEnd : Table → ℕ → ℕ → ℕ → ℕ → ℕ
+toEnd t S R E d = rounds (before t S R) E d
+
+-- the first of the k numbers from i on that passes the test, or i + k where none does
+unfoldable pub first : ℕ → ℕ → (ℕ → Bool) → ℕ
+first zero i p = i
+first (suc k) i p = elim (p i) [ true ↦ i | false ↦ first k (suc i) p ]
+
+-- step 4, the lower bound: the least b(q) over Q (w bounds it, where some state of Q is kept)
+unfoldable pub fewest : Table → ℕ → ℕ → ℕ → ℕ → ℕ → ℕ
+fewest t S R E Q w = first w 0 (λ d. someMember Q (has (toEnd t S R E d)))
+
+-- step 1: from the states before a segment, those behind it: Qj from Qj−1 at a place, R from Ql at the optional part
+unfoldable pub forward : Table → ℕ → Segment → ℕ
+forward t Q (mandatory S) = after t S Q
+forward t Q (optional S w) = atMost t S Q w
+
+-- from the states E kept behind a segment, those kept before it: step 5's Mj−1 at a place, step 4's Ml at the optional part
+unfoldable pub backward : Table → ℕ → Segment → ℕ → ℕ
+backward t Q (mandatory S) E = before t S Q E
+backward t Q (optional S w) E = both Q (toEnd t S (atMost t S Q w) E w)
+
+-- what a segment becomes: step 5's block 1, 1 at a place, step 4's at the optional part (where E, and so b's level, lies in R)
+unfoldable pub pruned : Table → ℕ → Segment → ℕ → Block
+pruned t Q (mandatory S) E = block (letters t S Q E) 1 1
+pruned t Q (optional S zero) E = block 0 0 0
+pruned t Q (optional S (suc v)) E =
+    let R = atMost t S Q (suc v) in
+    block (letters t S R (toEnd t S R E v)) (fewest t S R E Q (suc v)) (suc v)
+
+-- step 2: the states possible behind the last segment, from those before the first
+unfoldable pub final : Table → ℕ → List Segment → ℕ
+final t Q [] = Q
+final t Q (s ∷ ss) = final t (forward t Q s) ss
+
+-- the states kept before the segments; behind the last these are step 2's E, the accepting ones
+unfoldable pub kept : Dfa → ℕ → List Segment → ℕ
+kept b Q [] = both Q (b .accepting)
+kept b Q (s ∷ ss) = backward (b .table) Q s (kept b (forward (b .table) Q s) ss)
+
+-- what each segment becomes, in order, from the states Q before the first
+unfoldable pub narrowed : Dfa → ℕ → List Segment → List Block
+narrowed b Q [] = []
+narrowed b Q (s ∷ ss) = let P = forward (b .table) Q s in pruned (b .table) Q s (kept b P ss) ∷ narrowed b P ss
+
+-- the narrowed list: block by block, the places in order and then the optional part; the first block's Q0 is the start
+unfoldable pub entries : Dfa → List Block → List Block
+entries b xs = narrowed b (2 ^ b .start) (segments xs)

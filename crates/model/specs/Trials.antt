@@ -1,0 +1,57 @@
+-- Document 01's "Trials at the stake": the rows to be proved, and under "Faults we would expect" the one of the normal form.
+use Prim.Native.Nat.{ℕ}
+use mathlib.Core.Path.{_≡_}
+use mathlib.Core.List.{List, [], _∷_}
+use Rattle.model.specs.declared.Block.{Block}
+use Rattle.model.specs.declared.Verdict.{Verdict}
+use Rattle.model.specs.declared.Verdict.the-variants.{None, All, One, Some}
+use Rattle.model.specs.DashedString.{block}
+use Rattle.model.specs.Automaton.{Dfa}
+use Rattle.model.specs.Verdict.{answer, verdict}
+
+-- a book of n states, m letters, a start, accepting states and moves, as its record lists them; 255 is no move
+abbrev pub book : ℕ → ℕ → ℕ → ℕ → List ℕ → Dfa
+book n m start accepting moves =
+    record { table = record { states = n; letters = m; moves = moves }; start = start; accepting = accepting }
+
+-- 0 by letter 0 to 1, 1 by letter 1 to 2, 2 by letter 2 to 1; state 1 accepts
+abbrev pub A : Dfa
+A = book 3 3 0 0b010 (1 ∷ 255 ∷ 255 ∷ 255 ∷ 2 ∷ 255 ∷ 255 ∷ 255 ∷ 1 ∷ [])
+
+-- letters 0, 1, 2: 0 by 0 or 1 to 1, 1 by 2 to 2; state 2 accepts
+abbrev pub B : Dfa
+B = book 3 3 0 0b100 (1 ∷ 1 ∷ 255 ∷ 255 ∷ 255 ∷ 2 ∷ 255 ∷ 255 ∷ 255 ∷ [])
+
+-- one accepting state, which loops on letters 0, 1
+abbrev pub C : Dfa
+C = book 1 2 0 0b1 (0 ∷ 0 ∷ [])
+
+-- a row of the table: book and mask, with verdict and narrowed mask, or none
+pub data Row : Type 0 where
+  gives : Dfa → List Block → Verdict → List Block → Row
+  none : Dfa → List Block → Row
+
+-- the definitions give what the row says
+abbrev pub Holds : Row → Type 0
+Holds (gives b xs v ys) = (verdict b xs ≡ v) × (answer b xs ≡ ys)
+Holds (none b xs) = verdict b xs ≡ None
+
+-- each row holds
+abbrev pub AllHold : List Row → Type 0
+AllHold [] = Unit {0}
+AllHold (r ∷ rs) = Holds r × AllHold rs
+
+-- 01's rows, in its order; a set is written in binary, letter 0 on the right
+unfoldable pub rows : List Row
+rows =
+    gives A (block 0b111 0 2 ∷ []) Some (block 0b111 1 2 ∷ [])
+    ∷ gives A (block 0b111 1 1 ∷ []) One (block 0b001 1 1 ∷ [])
+    ∷ gives B (block 0b111 2 2 ∷ []) Some (block 0b011 1 1 ∷ block 0b100 1 1 ∷ [])
+    ∷ gives B (block 0b011 1 1 ∷ block 0b100 1 1 ∷ []) All (block 0b011 1 1 ∷ block 0b100 1 1 ∷ [])
+    ∷ gives B (block 0b010 1 1 ∷ block 0b101 1 1 ∷ []) One (block 0b010 1 1 ∷ block 0b100 1 1 ∷ [])
+    ∷ none B (block 0b100 1 3 ∷ [])
+    ∷ none B []
+    ∷ gives C [] All []
+    ∷ none C (block 0b00 1 1 ∷ [])
+    ∷ gives C (block 0b01 1 2 ∷ block 0b01 0 3 ∷ []) All (block 0b01 1 5 ∷ [])
+    ∷ []
