@@ -1,8 +1,9 @@
 -- The normal form of a list of blocks (01, "The passes"): first drop, then join.
 use Prim.Native.Nat.{ℕ, _+_}
 use mathlib.Core.Bool.{Bool, cond, _&&_, _||_}
+use mathlib.Core.Path.{_≡_}
 use mathlib.Core.List.{List, [], _∷_}
-use lib.Dec.{eqb}
+use lib.Dec.{T, eqb}
 use Rattle.model.specs.declared.Block.{Block}
 use Rattle.model.specs.DashedString.{block}
 
@@ -28,3 +29,13 @@ joined (x ∷ xs) = join x (joined xs)
 -- the normal form
 unfoldable pub normal : List Block → List Block
 normal xs = joined (dropped xs)
+
+-- the list does not begin with a block of the set S
+abbrev pub Apart : ℕ → List Block → Type 0
+Apart S [] = Unit {0}
+Apart S (x ∷ xs) = ¬ (S ≡ x .base)
+
+-- no block is idle, and no two neighbours have equal sets
+abbrev pub Reduced : List Block → Type 0
+Reduced [] = Unit {0}
+Reduced (x ∷ xs) = ¬ T (idle x) × Apart (x .base) xs × Reduced xs

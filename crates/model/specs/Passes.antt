@@ -2,7 +2,8 @@
 -- its optional part. Here these stand in one row of segments, and each pass is one recursion over the row.
 use Prim.Native.Nat.{ℕ, zero, suc, _-_, _^_}
 use mathlib.Core.Bool.{Bool, true, false}
-use mathlib.Core.List.{List, [], _∷_}
+use mathlib.Core.List.{List, [], _∷_, _++_}
+use lib.ListN.{replicate}
 use Rattle.model.specs.declared.Block.{Block}
 use Rattle.model.specs.Set.{has, both, either, someMember, members, unionOf}
 use Rattle.model.specs.DashedString.{block}
@@ -13,15 +14,14 @@ pub data Segment : Type 0 where
   mandatory : ℕ → Segment
   optional : ℕ → ℕ → Segment
 
--- l mandatory places, and then the rest
-abbrev pub places : ℕ → ℕ → List Segment → List Segment
-places S zero rest = rest
-places S (suc l) rest = mandatory S ∷ places S l rest
+-- a block: its places 1 to l, and then its optional part
+abbrev pub segmentsOf : Block → List Segment
+segmentsOf x = replicate (x .lower) (mandatory (x .base)) ++ optional (x .base) (x .upper - x .lower) ∷ []
 
--- the places and the optional part of each block, in order
+-- a mask, block by block
 abbrev pub segments : List Block → List Segment
 segments [] = []
-segments (x ∷ xs) = places (x .base) (x .lower) (optional (x .base) (x .upper - x .lower) ∷ segments xs)
+segments (x ∷ xs) = segmentsOf x ++ segments xs
 
 -- the states after one letter of S from the state q
 unfoldable pub reach : Table → ℕ → ℕ → ℕ

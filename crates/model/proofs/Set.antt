@@ -1,0 +1,156 @@
+-- What is in a set that was made: of one number, of two sets, by a test, by a union.
+-- Assumes nothing.
+use mathlib.Core.Path.{_≡_, refl, sym, ap, ap₂, _∙_, subst}
+use mathlib.Core.Logic.{_↔_, _⊎_, inl, inr, ⊎-elim}
+use mathlib.Core.Bool.{Bool, true, false, not, cond, _&&_, _||_}
+use Prim.Native.Nat.{ℕ, zero, suc, _+_, _*_, _/_, _%_, _^_, _≤_, _<_, min, max}
+use native.Mathlib.Nat.{pow-suc, zero-div, mul-div-cancel}
+use native.Mathlib.Numerals.{one-add}
+use native.Mathlib.Decide.{le-ind}
+use native.Mathlib.Omega.{arith}
+use borrow.Author.Tests.{ne-eqb}
+use lib.Bits.{bitAnd, bitOr, and-step, or-step, and-shr, or-shr}
+use lib.Dec.{T, eqb, eqb→eq, eqb-refl}
+use lib.Pow.{shr-shr}
+use Rattle.model.specs.Set.{has, Member, both, either, someBelow, unionBelow, someMember, members, unionOf}
+
+-- a test and its meaning
+pub T-and : (a b : Bool) → T (a && b) ↔ (T a × T b)
+T-and true b = (λ h. (tt, h), λ h. h .1)
+T-and false b = (λ h. absurd h, λ h. absurd (h .0))
+
+T-or : (a b : Bool) → T (a || b) ↔ (T a ⊎ T b)
+T-or true b = (λ h. inl tt, λ h. tt)
+T-or false b = (λ h. inr h, λ h. ⊎-elim (λ e. absurd e) (λ e. e) h)
+
+-- two binary digits have four cases
+digits : (P : ℕ → ℕ → Type 0) → P 0 0 → P 0 1 → P 1 0 → P 1 1 → (a b : ℕ) → P (a % 2) (b % 2)
+digits P p q r s a b = go (a % 2) (b % 2) (omega arith) (omega arith)
+  where
+    go : (x y : ℕ) → x < 2 → y < 2 → P x y
+    go zero zero h l = p
+    go zero (suc zero) h l = q
+    go zero (suc (suc y)) h l = absurd (omega arith)
+    go (suc zero) zero h l = r
+    go (suc zero) (suc zero) h l = s
+    go (suc zero) (suc (suc y)) h l = absurd (omega arith)
+    go (suc (suc x)) y h l = absurd (omega arith)
+
+odd-and : (a b : ℕ) → bitAnd a b % 2 ≡ min (a % 2) (b % 2)
+odd-and a b = omega (arith, and-step a b)
+
+odd-or : (a b : ℕ) → bitOr a b % 2 ≡ max (a % 2) (b % 2)
+odd-or a b = omega (arith, or-step a b)
+
+-- the bits of both, of either, of no set, of half a number and of one number's set
+has-both : (s t i : ℕ) → has (both s t) i ≡ (has s i && has t i)
+unfolding has
+has-both s t i =
+    rw (and-shr s t i, odd-and (s / 2 ^ i) (t / 2 ^ i))
+      (digits (λ x y. eqb (min x y) 1 ≡ (eqb x 1 && eqb y 1)) refl refl refl refl (s / 2 ^ i) (t / 2 ^ i))
+
+has-either : (s t i : ℕ) → has (either s t) i ≡ (has s i || has t i)
+unfolding has
+has-either s t i =
+    rw (or-shr s t i, odd-or (s / 2 ^ i) (t / 2 ^ i))
+      (digits (λ x y. eqb (max x y) 1 ≡ (eqb x 1 || eqb y 1)) refl refl refl refl (s / 2 ^ i) (t / 2 ^ i))
+
+has-zero : (i : ℕ) → has 0 i ≡ false
+unfolding has
+has-zero i = rw (zero-div (2 ^ i))
+
+has-half : (s i : ℕ) → has s (suc i) ≡ has (s / 2) i
+unfolding has
+has-half s i = rw (shr-shr s 1 i, one-add i)
+
+has-even : (k : ℕ) → has (2 ^ suc k) 0 ≡ false
+unfolding has
+has-even k = ne-eqb (2 ^ suc k / 2 ^ 0 % 2) 1 (λ e. omega (arith, pow-suc 2 k))
+
+has-double : (k i : ℕ) → has (2 ^ suc k) (suc i) ≡ has (2 ^ k) i
+has-double k i = rw (has-half, pow-suc, mul-div-cancel (2 ^ k) {n = 2} (omega arith))
+
+has-one : (k i : ℕ) → T (has (2 ^ k) i) → i ≡ k
+has-one zero zero h = refl
+has-one zero (suc i) h = absurd (rw (has-half, has-zero) at h)
+has-one (suc k) zero h = absurd (rw has-even at h)
+has-one (suc k) (suc i) h = ap suc (has-one k i (rw has-double at h))
+
+one-has : (k : ℕ) → T (has (2 ^ k) k)
+unfolding has
+one-has zero = tt
+one-has (suc k) = rw has-double (one-has k)
+
+-- ---- members
+
+pub member : {i s : ℕ} → i < 64 → T (has s i) → Member i s
+member h t = record { small = h; there = t }
+
+pub in-none : {i : ℕ} → Member i 0 → ⊥
+in-none {i} h = rw has-zero at (h .there)
+
+pub in-one : {i k : ℕ} → Member i (2 ^ k) → i ≡ k
+in-one {i} {k} h = has-one k i (h .there)
+
+pub one-in : {k : ℕ} → k < 64 → Member k (2 ^ k)
+one-in {k} h = member h (one-has k)
+
+pub in-both : (s t : ℕ) {i : ℕ} → Member i (both s t) ↔ (Member i s × Member i t)
+in-both s t {i} =
+    ( λ h. let (a, b) = T-and (has s i) (has t i) .0 (rw has-both at (h .there)) in (member (h .small) a, member (h .small) b)
+    , λ h. member (h .0 .small) (rw has-both (T-and (has s i) (has t i) .1 (h .0 .there, h .1 .there))) )
+
+pub in-either : (s t : ℕ) {i : ℕ} → Member i (either s t) ↔ (Member i s ⊎ Member i t)
+in-either s t {i} =
+    ( λ h. ⊎-elim (λ a. inl (member (h .small) a)) (λ b. inr (member (h .small) b)) (T-or (has s i) (has t i) .0 (rw has-either at (h .there)))
+    , λ h.
+        ⊎-elim (λ a. member (a .small) (rw has-either (T-or (has s i) (has t i) .1 (inl (a .there)))))
+          (λ b. member (b .small) (rw has-either (T-or (has s i) (has t i) .1 (inr (b .there))))) h )
+
+-- ---- folds over the numbers below k
+
+some-below : (k : ℕ) (p : ℕ → Bool) → T (someBelow k p) ↔ ((i : ℕ) × (i < k) × T (p i))
+unfolding someBelow
+some-below k p = (find k, λ (i, l, h). le-ind (λ m. T (someBelow m p)) (T-or (someBelow i p) (p i) .1 (inr h)) (λ m _ g. T-or (someBelow m p) (p m) .1 (inl g)) k l)
+  where
+    find : (k : ℕ) → T (someBelow k p) → (i : ℕ) × (i < k) × T (p i)
+    find zero h = absurd h
+    find (suc k) h =
+        ⊎-elim (λ a. let (i, l, g) = find k a in (i, omega arith, g)) (λ b. (k, omega arith, b)) (T-or (someBelow k p) (p k) .0 h)
+
+-- a set, and where the test passes another
+in-cond : (s t : ℕ) (v : Bool) {i : ℕ} → Member i (cond v (either s t) s) ↔ (Member i s ⊎ (T v × Member i t))
+in-cond s t true =
+    (λ h. ⊎-elim inl (λ b. inr (tt, b)) (in-either s t .0 h), λ h. in-either s t .1 (⊎-elim inl (λ b. inr (b .1)) h))
+in-cond s t false = (inl, λ h. ⊎-elim (λ a. a) (λ b. absurd (b .0)) h)
+
+in-below : (k : ℕ) (p : ℕ → Bool) (f : ℕ → ℕ) {i : ℕ} → Member i (unionBelow k p f) ↔ ((j : ℕ) × (j < k) × T (p j) × Member i (f j))
+unfolding unionBelow
+in-below k p f {i} = (find k, λ (j, l, h, g). le-ind (λ m. Member i (unionBelow m p f)) (fold j .1 (inr (h, g))) (λ m _ r. fold m .1 (inl r)) k l)
+  where
+    fold : (k : ℕ) → Member i (unionBelow (suc k) p f) ↔ (Member i (unionBelow k p f) ⊎ (T (p k) × Member i (f k)))
+    fold k = in-cond (unionBelow k p f) (f k) (p k)
+
+    find : (k : ℕ) → Member i (unionBelow k p f) → (j : ℕ) × (j < k) × T (p j) × Member i (f j)
+    find zero h = absurd (in-none h)
+    find (suc k) h = ⊎-elim (λ a. let (j, l, g, m) = find k a in (j, omega arith, g, m)) (λ b. (k, omega arith, b .0, b .1)) (fold k .0 h)
+
+-- ---- tests and unions over the members of a set
+
+pub some-member : (s : ℕ) (p : ℕ → Bool) → T (someMember s p) ↔ ((i : ℕ) × Member i s × T (p i))
+some-member s p =
+    ( λ h. let (i, l, g) = some-below 64 test .0 h in let (a, b) = T-and (has s i) (p i) .0 g in (i, member l a, b)
+    , λ (i, m, g). some-below 64 test .1 (i, m .small, T-and (has s i) (p i) .1 (m .there, g)) )
+  where
+    test : ℕ → Bool
+    test i = has s i && p i
+
+pub in-members : (s : ℕ) (p : ℕ → Bool) {i : ℕ} → Member i (members s p) ↔ (Member i s × T (p i))
+in-members s p {i} =
+    ( λ h. let (j, l, g, m) = in-below 64 _ _ .0 h in let (a, b) = T-and (has s j) (p j) .0 g in rw (in-one m) (member l a, b)
+    , λ (m, g). in-below 64 _ _ .1 (i, m .small, T-and (has s i) (p i) .1 (m .there, g), one-in (m .small)) )
+
+pub in-union : (s : ℕ) (f : ℕ → ℕ) {i : ℕ} → Member i (unionOf s f) ↔ ((j : ℕ) × Member j s × Member i (f j))
+in-union s f =
+    ( λ h. let (j, l, g, m) = in-below 64 (has s) f .0 h in (j, member l g, m)
+    , λ (j, m, g). in-below 64 (has s) f .1 (j, m .small, m .there, g) )
