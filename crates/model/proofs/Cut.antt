@@ -3,7 +3,7 @@
 -- Assumes nothing.
 use mathlib.Core.Path.{_≡_, refl, sym, ap, ap₂, _∙_}
 use mathlib.Core.Logic.{_↔_}
-use mathlib.Core.List.{List, [], _∷_, _++_, flatten}
+use mathlib.Core.List.{List, [], _∷_, _++_, map, flatten}
 use Prim.Native.Nat.{ℕ, zero, suc, _+_, _-_, _^_, _≤_, _<_, zero-le}
 use native.Mathlib.Nat.{zero-add}
 use native.Mathlib.Omega.{arith}
@@ -11,7 +11,7 @@ use lib.ListN.{length, getD, replicate, length-append, length-replicate, List·g
 use lib.Seq.{getD-append-add}
 use Rattle.model.specs.declared.Block.{Block}
 use Rattle.model.specs.Set.{Member}
-use Rattle.model.specs.DashedString.{block, Each, Within, nil, cons, Piece, Factorization, done, then}
+use Rattle.model.specs.DashedString.{block, Each, Bounded, Within, nil, cons, Factorization, done, then, Matches}
 use Rattle.model.specs.Automaton.{Dfa, run}
 use Rattle.model.specs.Legal.{Checked}
 use Rattle.model.specs.Passes.{Segment, mandatory, optional, segmentsOf, segments, pruned, narrowed, entries}
@@ -65,13 +65,19 @@ parts-along S (suc k) w ss (then {p} {ps} g f) =
     let (p', h, l, f', rs, r, e') = parts-along S k w ss f in
     (c ∷ p', cons n h, omega arith, omega arith, rs, r, ap₂ _∷_ (sym e) e')
 
-glued : (xs : List Block) → Each (λ x. x .lower ≤ x .upper) xs → {qs : List (List ℕ)} → Parts (segments xs) qs
+glued : (xs : List Block) → Each Bounded xs → {qs : List (List ℕ)} → Parts (segments xs) qs
     → (ps : List (List ℕ)) × Factorization xs ps × (chop xs ps ≡ qs)
 glued [] ok done = ([], done, refl)
 glued (x ∷ xs) ok h =
     let (p, n, l, f, rs, r, e) = parts-along (x .base) (x .lower) (x .upper - x .lower) (segments xs) h in
     let (ps, k, e') = glued xs (ok .1) r in
     (p ∷ ps, then {x = x} (record { within = n; enough = l; few = omega (arith, ok .0) }) k, rw e' e)
+
+-- the row of segments spells what the mask spells
+pub segments-spell : (xs : List Block) → Each Bounded xs → (w : List ℕ) → Matches (map asBlock (segments xs)) w ↔ Matches xs w
+segments-spell xs ok w =
+    ( λ (qs, r, e). let (ps, f, g) = glued xs ok r in (ps, f, rw (← flatten-chop f, g) e)
+    , λ (ps, f, e). (chop xs ps, chopped f, rw (flatten-chop f) e) )
 
 -- ---- where things stand
 

@@ -5,4 +5,5 @@ pub mod Segments
 pub mod Cut
 pub mod NormalForm
 pub mod Room
+pub mod Demand3
 pub mod Trials

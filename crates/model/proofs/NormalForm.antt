@@ -9,13 +9,9 @@ use lib.Dec.{T, eqb, eqb→eq}
 use lib.ListN.{length, take, drop, length-append, length-take, length-drop, take-append-drop, drop-of-length-le}
 use borrow.Author.Tests.{eqb-true, eqb-false}
 use Rattle.model.specs.declared.Block.{Block}
-use Rattle.model.specs.DashedString.{block, Each, Within, nil, Piece, Matches}
+use Rattle.model.specs.DashedString.{block, Each, Bounded, Within, nil, Piece, Matches}
 use Rattle.model.specs.NormalForm.{idle, dropped, join, joined, normal, Apart, Reduced}
 use Rattle.model.proofs.Words.{within-append, within-split, within-zero, Concat, matches-cons}
-
--- l ≤ u
-abbrev pub Bounded : Block → Type 0
-Bounded x = x .lower ≤ x .upper
 
 -- two blocks of one base as one block
 abbrev pub merged : Block → Block → Block
@@ -23,7 +19,7 @@ merged x y = block (x .base) (x .lower + y .lower) (x .upper + y .upper)
 
 -- ys is what becomes of xs from the last block to the first, each block being dropped, kept, or joined with the one behind it
 pub data Normalizes : List Block → List Block → Type 0 where
-  none : Normalizes [] []
+  nothing : Normalizes [] []
   drops : {x : Block} {xs ys : List Block} → T (idle x) → Normalizes xs ys → Normalizes (x ∷ xs) ys
   keeps : {x : Block} {xs ys : List Block} → ¬ T (idle x) → Apart (x .base) ys → Normalizes xs ys → Normalizes (x ∷ xs) (x ∷ ys)
   joins : {x y : Block} {xs ys : List Block} → ¬ T (idle x) → x .base ≡ y .base → Normalizes xs (y ∷ ys)
@@ -42,7 +38,7 @@ join-normalizes x (y ∷ ys) {xs} i n = go (eqb (x .base) (y .base)) refl
 -- the normal form is what becomes of a mask so: the theorems below and in Room go by the four cases
 pub normalizes : (xs : List Block) → Normalizes xs (normal xs)
 unfolding normal dropped joined
-normalizes [] = none
+normalizes [] = nothing
 normalizes (x ∷ xs) = go (idle x) refl (normalizes xs)
   where
     go : (b : Bool) → idle x ≡ b → Normalizes xs (normal xs) → Normalizes (x ∷ xs) (joined (cond b (dropped xs) (x ∷ dropped xs)))
@@ -52,7 +48,7 @@ normalizes (x ∷ xs) = go (idle x) refl (normalizes xs)
 -- what holds of each block of a mask, and of two blocks joined where it holds of both, holds of each block of the normal form
 pub each-normal : (P : Block → Type 0) → ((x y : Block) → x .base ≡ y .base → P x → P y → P (merged x y))
     → {xs ys : List Block} → Normalizes xs ys → Each P xs → Each P ys
-each-normal P k none h = tt
+each-normal P k nothing h = tt
 each-normal P k (drops i n) h = each-normal P k n (h .1)
 each-normal P k (keeps i a n) h = (h .0, each-normal P k n (h .1))
 each-normal P k (joins {x} {y} i e n) h = let (b, bs) = each-normal P k n (h .1) in (k x y e (h .0) b, bs)
@@ -129,7 +125,7 @@ module _ (x y : Block) (same : x .base ≡ y .base) (bx : Bounded x) (by : Bound
 
 -- no step changes what is spelled
 spells : {xs ys : List Block} → Normalizes xs ys → Each Bounded xs → (w : List ℕ) → Matches ys w ↔ Matches xs w
-spells none h w = Iff·rfl
+spells nothing h w = Iff·rfl
 spells (drops {x} i n) h w = Iff·trans (spells n (h .1) w) (drop-spells x i (h .0))
 spells (keeps {x} i a n) h w = cons-spells x (λ v. spells n (h .1) v) w
 spells (joins {x} {y} i e n) h w =
@@ -142,7 +138,7 @@ normal-spells xs = spells (normalizes xs)
 
 -- each step leaves a reduced mask
 reduced : {xs ys : List Block} → Normalizes xs ys → Reduced ys
-reduced none = tt
+reduced nothing = tt
 reduced (drops i n) = reduced n
 reduced (keeps i a n) = (i, a, reduced n)
 reduced (joins {x} {y} i e n) = let (j, a, r) = reduced n in (λ k. i (idle-merged x y k), rw e a, r)

@@ -1,13 +1,20 @@
--- The normal form of a mask with room has room, and so it fits a record (01, checks 4, 7, 8 and 9).
-use Prim.Native.Nat.{ℕ, _≤_}
-use mathlib.Core.Path.{_≡_}
-use mathlib.Core.List.{List, [], _∷_}
+-- The normal form of a mask with room, and the narrowed mask of one, fit a record (01, checks 4, 7, 8 and 9).
+-- Assumes nothing.
+use Prim.Native.Nat.{ℕ, zero, suc, _+_, _-_, _^_, _≤_}
+use mathlib.Core.Path.{_≡_, refl}
+use mathlib.Core.List.{List, [], _∷_, _++_, map}
 use native.Mathlib.Omega.{arith}
-use lib.ListN.{length}
+use lib.ListN.{length, replicate}
 use Rattle.model.specs.declared.Block.{Block}
+use Rattle.model.specs.DashedString.{block, Each, Bounded}
+use Rattle.model.specs.Automaton.{Dfa}
+use Rattle.model.specs.Passes.{Segment, mandatory, optional, segments, entries}
 use Rattle.model.specs.NormalForm.{normal, Reduced}
+use Rattle.model.specs.Verdict.{answer}
 use Rattle.model.specs.Size.{uppers, Sound, Room, Fits}
-use Rattle.model.proofs.NormalForm.{merged, Normalizes, none, drops, keeps, joins, normalizes, each-normal, idle-positive, normal-reduced}
+use Rattle.model.proofs.Segment.{asBlock}
+use Rattle.model.proofs.Segments.{AllNarrow, none, more, all-narrow}
+use Rattle.model.proofs.NormalForm.{merged, Normalizes, nothing, drops, keeps, joins, normalizes, each-normal, idle-positive, normal-reduced}
 
 -- joining keeps blocks sound
 sound-merged : (m : ℕ) (x y : Block) → x .base ≡ y .base → Sound m x → Sound m y → Sound m (merged x y)
@@ -15,7 +22,7 @@ sound-merged m x y e a b = record { bounds = omega arith; bytes = a .bytes; lett
 
 -- dropping does not raise the sum of the upper bounds, and joining keeps it
 uppers-normal : {xs ys : List Block} → Normalizes xs ys → uppers ys ≤ uppers xs
-uppers-normal none = omega arith
+uppers-normal nothing = omega arith
 uppers-normal (drops i n) = omega (arith, uppers-normal n)
 uppers-normal (keeps i a n) = omega (arith, uppers-normal n)
 uppers-normal (joins i e n) = omega (arith, uppers-normal n)
@@ -37,3 +44,59 @@ normal-few xs = omega (arith, reduced-few (normal xs) (normal-reduced xs), upper
 -- the normal form of a mask with room fits a record
 pub normal-fits : (m : ℕ) (xs : List Block) → Room m xs → Fits m (normal xs)
 normal-fits m xs r = record { few = omega (arith, normal-few xs); room = normal-room m xs r }
+
+-- ---- the narrowed list
+
+-- where each entry narrows its segment, bounds and uppers are as the segments have them, and sets are sound where theirs are
+pub narrow-bounded : {ss : List Segment} {ys : List Block} → AllNarrow ss ys → Each Bounded ys
+narrow-bounded none = tt
+narrow-bounded (more n r) = (n .bounds, narrow-bounded r)
+
+narrow-uppers : {ss : List Segment} {ys : List Block} → AllNarrow ss ys → uppers ys ≡ uppers (map asBlock ss)
+narrow-uppers none = refl
+narrow-uppers (more n r) = omega (arith, n .upper, narrow-uppers r)
+
+narrow-sound : (m : ℕ) {ss : List Segment} {ys : List Block} → AllNarrow ss ys → Each (Sound m) (map asBlock ss) → Each (Sound m) ys
+narrow-sound m none h = tt
+narrow-sound m (more n r) (h, hs) =
+    (record { bounds = n .bounds; bytes = n .bytes; letters = λ c k. h .letters c (n .within c k) }, narrow-sound m r hs)
+
+-- the segments of a mask have its letters, and its uppers where l ≤ u
+module _ (S : ℕ) (w : ℕ) (ss : List Segment) where
+  row-uppers : (l : ℕ) → uppers (map asBlock ((replicate l (mandatory S) ++ optional S w ∷ []) ++ ss)) ≡ l + (w + uppers (map asBlock ss))
+  row-uppers zero = omega arith
+  row-uppers (suc l) = omega (arith, row-uppers l)
+
+  row-each : (P : Block → Type 0) → P (block S 1 1) → P (block S 0 w) → Each P (map asBlock ss)
+      → (l : ℕ) → Each P (map asBlock ((replicate l (mandatory S) ++ optional S w ∷ []) ++ ss))
+  row-each P p o r zero = (o, r)
+  row-each P p o r (suc l) = (p, row-each P p o r l)
+
+segments-uppers : (m : ℕ) (xs : List Block) → Each (Sound m) xs → uppers (map asBlock (segments xs)) ≡ uppers xs
+segments-uppers m [] h = refl
+segments-uppers m (x ∷ xs) (h, hs) =
+    omega (arith, row-uppers (x .base) (x .upper - x .lower) (segments xs) (x .lower), segments-uppers m xs hs, h .bounds)
+
+segments-sound : (m : ℕ) (xs : List Block) → Each (Sound m) xs → Each (Sound m) (map asBlock (segments xs))
+segments-sound m [] h = tt
+segments-sound m (x ∷ xs) (h, hs) =
+    row-each (x .base) (x .upper - x .lower) (segments xs) (Sound m) (of 1 1 (omega arith)) (of 0 (x .upper - x .lower) (omega arith))
+      (segments-sound m xs hs) (x .lower)
+  where
+    of : (l u : ℕ) → l ≤ u → Sound m (block (x .base) l u)
+    of l u k = record { bounds = k; bytes = h .bytes; letters = h .letters }
+
+-- the narrowed list has room where the mask has
+entries-room : (b : Dfa) (m : ℕ) (xs : List Block) → Room m xs → Room m (entries b xs)
+unfolding entries
+entries-room b m xs r =
+    let n = all-narrow b (2 ^ b .start) (segments xs) in
+    record
+      { each = narrow-sound m n (segments-sound m xs (r .each))
+      ; sum = omega (arith, r .sum, narrow-uppers n, segments-uppers m xs (r .each))
+      }
+
+-- the narrowed mask can be written and narrowed again
+pub answer-fits : (b : Dfa) (m : ℕ) (xs : List Block) → Room m xs → Fits m (answer b xs)
+unfolding answer
+answer-fits b m xs r = normal-fits m (entries b xs) (entries-room b m xs r)

@@ -16,7 +16,7 @@ use Rattle.model.specs.Set.{has, Member, someMember}
 use Rattle.model.specs.DashedString.{block, Within, nil, cons, Piece}
 use Rattle.model.specs.Automaton.{Table, next, run}
 use Rattle.model.specs.Passes.{Segment, mandatory, optional, reach, after, before, letters, rounds, atMost, toEnd, first, fewest, forward, backward, pruned}
-use Rattle.model.proofs.Set.{T-and, member, in-none, in-one, one-in, in-both, in-either, some-member, in-members, in-union}
+use Rattle.model.proofs.Set.{T-and, member, in-none, in-one, one-in, in-both, in-either, some-member, in-members, in-union, members-bytes}
 use Rattle.model.proofs.Words.{within-append, within-mono, run-append}
 
 -- what a segment spells is what this block spells
@@ -68,6 +68,43 @@ first-least (suc k) i d p l h = go (p i) refl (λ g. first-least k (suc i) d p g
     go : (v : Bool) → p i ≡ v → (suc i ≤ d → first k (suc i) p ≤ d) → elim v [ true ↦ i | false ↦ first k (suc i) p ] ≤ d
     go true e f = l
     go false e f = f (⊎-elim (λ q. absurd (rw (← q, e) at h)) (λ g. g) (eq-or-lt-of-le l))
+
+-- the letters that stay are letters of S, and a set of 8 bytes
+letters-within : (t : Table) (S Q E : ℕ) {c : ℕ} → Member c (letters t S Q E) → Member c S
+unfolding letters
+letters-within t S Q E {c} h = in-members S (λ c. someMember Q (λ q. has E (next t q c))) .0 h .0
+
+letters-bytes : (t : Table) (S Q E : ℕ) → letters t S Q E < 2 ^ 64
+unfolding letters
+letters-bytes t S Q E = members-bytes S (λ c. someMember Q (λ q. has E (next t q c)))
+
+-- y narrows x: no new letter, no smaller lower and the same upper bound; and y is a block of a record, with l ≤ u
+pub record Narrows (x y : Block) : Type 0 where
+  pub within : (c : ℕ) → Member c (y .base) → Member c (x .base)
+  pub bytes : y .base < 2 ^ 64
+  pub lower : x .lower ≤ y .lower
+  pub upper : y .upper ≡ x .upper
+  pub bounds : y .lower ≤ y .upper
+
+pub pruned-narrows : (t : Table) (Q : ℕ) (s : Segment) (E : ℕ) → Narrows (asBlock s) (pruned t Q s E)
+unfolding pruned fewest
+pruned-narrows t Q (mandatory S) E =
+    record { within = λ c h. letters-within t S Q E h; bytes = letters-bytes t S Q E; lower = omega arith; upper = refl; bounds = omega arith }
+pruned-narrows t Q (optional S zero) E =
+    record { within = λ c h. absurd (in-none h); bytes = omega arith; lower = omega arith; upper = refl; bounds = omega arith }
+pruned-narrows t Q (optional S (suc v)) E =
+    let R = atMost t S Q (suc v) in
+    record
+      { within = λ c h. letters-within t S R (toEnd t S R E v) h
+      ; bytes = letters-bytes t S R (toEnd t S R E v)
+      ; lower = zero-le
+      ; upper = refl
+      ; bounds = omega (arith, first-end (suc v) 0 (λ d. someMember Q (has (toEnd t S R E d))))
+      }
+
+-- what narrows a block spells nothing that the block does not
+pub narrows-adds : {x y : Block} {p : List ℕ} → Narrows x y → Piece y p → Piece x p
+narrows-adds n g = record { within = within-mono (n .within) (g .within); enough = omega arith; few = omega arith }
 
 module _ (t : Table) (fits : t .states < 64) where
   -- a move leads to a state or to the dead state, which has a number below 64
@@ -211,15 +248,6 @@ module _ (t : Table) (fits : t .states < 64) where
               (some-member Q (has (toEnd t S R E (length p))) .1 (q, m, led S Q E (suc v) 0 (length p) m (g .within) e (omega (arith, g .few)) (omega arith) .there))
         ; few = g .few
         }
-
-  -- what a segment becomes spells nothing that the segment does not
-  pub pruned-adds : (Q : ℕ) (s : Segment) (E : ℕ) {p : List ℕ} → Piece (pruned t Q s E) p → Piece (asBlock s) p
-  unfolding pruned
-  pruned-adds Q (mandatory S) E g = record { within = within-mono (λ c h. in-letters S Q E .0 h .0) (g .within); enough = g .enough; few = g .few }
-  pruned-adds Q (optional S zero) E g = record { within = within-mono (λ c h. absurd (in-none h)) (g .within); enough = zero-le; few = g .few }
-  pruned-adds Q (optional S (suc v)) E g =
-      let R = atMost t S Q (suc v) in
-      record { within = within-mono (λ c h. in-letters S R (toEnd t S R E v) .0 h .0) (g .within); enough = zero-le; few = g .few }
 
   -- a letter stays in a mandatory place exactly when a way over the place has it
   pub pruned-exact : (S Q E : ℕ) {c : ℕ} → Member c (pruned t Q (mandatory S) E .base) ↔ Over t Q (mandatory S) E (λ p. getD p 0 64 ≡ c)

@@ -7,13 +7,14 @@ use mathlib.Core.List.{List, [], _∷_, map, flatten}
 use Prim.Native.Nat.{ℕ, zero, suc, _<_}
 use native.Mathlib.Omega.{arith}
 use lib.ListN.{length, getD}
+use Rattle.model.specs.declared.Block.{Block}
 use Rattle.model.specs.Set.{Member}
 use Rattle.model.specs.DashedString.{block, Piece, Factorization, done, then}
 use Rattle.model.specs.Automaton.{Dfa, run}
 use Rattle.model.specs.Passes.{Segment, optional, forward, backward, pruned, final, kept, narrowed}
 use Rattle.model.proofs.Set.{in-both}
 use Rattle.model.proofs.Words.{run-append}
-use Rattle.model.proofs.Segment.{asBlock, Over, in-forward, in-backward, pruned-keeps, pruned-adds}
+use Rattle.model.proofs.Segment.{asBlock, Over, in-forward, in-backward, Narrows, pruned-narrows, narrows-adds, pruned-keeps}
 
 -- one piece for each segment, in order
 abbrev pub Parts : List Segment → List (List ℕ) → Type 0
@@ -22,6 +23,22 @@ Parts ss ps = Factorization (map asBlock ss) ps
 -- pieces that have the property lead from a state of Q to an accepting state
 abbrev pub Through : Dfa → ℕ → List Segment → (List (List ℕ) → Type 0) → Type 0
 Through b Q ss P = (q : ℕ) × Member q Q × (ps : List (List ℕ)) × Parts ss ps × Member (run (b .table) q (flatten ps)) (b .accepting) × P ps
+
+-- each entry narrows its segment
+pub data AllNarrow : List Segment → List Block → Type 0 where
+  none : AllNarrow [] []
+  more : {s : Segment} {ss : List Segment} {y : Block} {ys : List Block} → Narrows (asBlock s) y → AllNarrow ss ys → AllNarrow (s ∷ ss) (y ∷ ys)
+
+pub all-narrow : (b : Dfa) (Q : ℕ) (ss : List Segment) → AllNarrow ss (narrowed b Q ss)
+unfolding narrowed
+all-narrow b Q [] = none
+all-narrow b Q (s ∷ ss) =
+    let P = forward (b .table) Q s in more (pruned-narrows (b .table) Q s (kept b P ss)) (all-narrow b P ss)
+
+-- so nothing new is spelled
+pub narrow-adds : {ss : List Segment} {ys : List Block} {ps : List (List ℕ)} → AllNarrow ss ys → Factorization ys ps → Parts ss ps
+narrow-adds none done = done
+narrow-adds (more n r) (then g f) = then (narrows-adds n g) (narrow-adds r f)
 
 module _ (b : Dfa) (fits : b .table .states < 64) where
   -- a piece leads from a state before the segment to one behind it
@@ -62,7 +79,7 @@ module _ (b : Dfa) (fits : b .table .states < 64) where
       in-backward (b .table) fits Q s (kept b (forward (b .table) Q s) ss) .1
         (m, p, g, kept-out (forward (b .table) Q s) ss (behind Q s m g) f (rw run-append at e))
 
-  -- pieces that lead to an accepting state are still spelled, segment by segment
+  -- pieces that lead to an accepting state are still spelled
   pub narrowed-keeps : (Q : ℕ) (ss : List Segment) {q : ℕ} {ps : List (List ℕ)} → Member q Q → Parts ss ps
       → Member (run (b .table) q (flatten ps)) (b .accepting) → Factorization (narrowed b Q ss) ps
   unfolding narrowed flatten
@@ -72,13 +89,6 @@ module _ (b : Dfa) (fits : b .table .states < 64) where
       let m' = behind Q s m g in
       let e' = rw run-append at e in
       then (pruned-keeps (b .table) fits Q s (kept b P ss) m g (kept-out P ss m' f e')) (narrowed-keeps P ss m' f e')
-
-  -- and nothing new is
-  pub narrowed-adds : (Q : ℕ) (ss : List Segment) {ps : List (List ℕ)} → Factorization (narrowed b Q ss) ps → Parts ss ps
-  unfolding narrowed
-  narrowed-adds Q [] done = done
-  narrowed-adds Q (s ∷ ss) (then g f) =
-      let P = forward (b .table) Q s in then (pruned-adds (b .table) fits Q s (kept b P ss) g) (narrowed-adds P ss f)
 
   -- the first piece of a row, and the rest
   peeled : (Q : ℕ) (s : Segment) (ss : List Segment) (P : List (List ℕ) → Type 0) → Through b Q (s ∷ ss) P

@@ -9,9 +9,9 @@ use native.Mathlib.Numerals.{one-add}
 use native.Mathlib.Decide.{le-ind}
 use native.Mathlib.Omega.{arith}
 use borrow.Author.Tests.{ne-eqb}
-use lib.Bits.{bitAnd, bitOr, and-step, or-step, and-shr, or-shr}
+use lib.Bits.{bitAnd, bitOr, and-step, or-step, and-shr, or-shr, or-lt}
 use lib.Dec.{T, eqb, eqb→eq, eqb-refl}
-use lib.Pow.{shr-shr}
+use lib.Pow.{shr-shr, pow-lt}
 use Rattle.model.specs.Set.{has, Member, both, either, someBelow, unionBelow, someMember, members, unionOf}
 
 -- a test and its meaning
@@ -154,3 +154,17 @@ pub in-union : (s : ℕ) (f : ℕ → ℕ) {i : ℕ} → Member i (unionOf s f) 
 in-union s f =
     ( λ h. let (j, l, g, m) = in-below 64 (has s) f .0 h in (j, member l g, m)
     , λ (j, m, g). in-below 64 (has s) f .1 (j, m .small, m .there, g) )
+
+-- ---- a set made by tests is 8 bytes
+
+below-bytes : (k : ℕ) (p : ℕ → Bool) (f : ℕ → ℕ) → ((i : ℕ) → i < k → f i < 2 ^ 64) → unionBelow k p f < 2 ^ 64
+unfolding unionBelow
+below-bytes zero p f h = omega arith
+below-bytes (suc k) p f h = go (p k) (below-bytes k p f (λ i l. h i (omega arith)))
+  where
+    go : (v : Bool) → unionBelow k p f < 2 ^ 64 → cond v (either (unionBelow k p f) (f k)) (unionBelow k p f) < 2 ^ 64
+    go true r = or-lt 64 (unionBelow k p f) (f k) r (h k (omega arith))
+    go false r = r
+
+pub members-bytes : (s : ℕ) (p : ℕ → Bool) → members s p < 2 ^ 64
+members-bytes s p = below-bytes 64 (λ i. has s i && p i) (λ i. 2 ^ i) (λ i l. pow-lt l)

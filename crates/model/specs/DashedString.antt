@@ -16,6 +16,10 @@ abbrev pub Each : (Block → Type 0) → List Block → Type 0
 Each P [] = Unit {0}
 Each P (x ∷ xs) = P x × Each P xs
 
+-- l ≤ u
+abbrev pub Bounded : Block → Type 0
+Bounded x = x .lower ≤ x .upper
+
 -- each letter of the word is in the set
 pub data Within (S : ℕ) : List ℕ → Type 0 where
   nil : Within S []

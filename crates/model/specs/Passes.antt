@@ -79,7 +79,7 @@ pruned t Q (optional S (suc v)) E =
     let R = atMost t S Q (suc v) in
     block (letters t S R (toEnd t S R E v)) (fewest t S R E Q (suc v)) (suc v)
 
--- step 2: the states possible behind the last segment, from those before the first
+-- the states possible behind the last segment, from those before the first
 unfoldable pub final : Table → ℕ → List Segment → ℕ
 final t Q [] = Q
 final t Q (s ∷ ss) = final t (forward t Q s) ss
@@ -94,6 +94,10 @@ unfoldable pub narrowed : Dfa → ℕ → List Segment → List Block
 narrowed b Q [] = []
 narrowed b Q (s ∷ ss) = let P = forward (b .table) Q s in pruned (b .table) Q s (kept b P ss) ∷ narrowed b P ss
 
--- the narrowed list: block by block, the places in order and then the optional part; the first block's Q0 is the start
+-- step 2: the states possible behind the last block; the first block's Q0 is the start alone
+unfoldable pub finals : Dfa → List Block → ℕ
+finals b xs = final (b .table) (2 ^ b .start) (segments xs)
+
+-- the narrowed list: block by block, the places in order and then the optional part
 unfoldable pub entries : Dfa → List Block → List Block
 entries b xs = narrowed b (2 ^ b .start) (segments xs)

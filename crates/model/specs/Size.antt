@@ -4,7 +4,7 @@ use mathlib.Core.List.{List, [], _∷_}
 use lib.ListN.{length}
 use Rattle.model.specs.declared.Block.{Block}
 use Rattle.model.specs.Set.{Member}
-use Rattle.model.specs.DashedString.{Each}
+use Rattle.model.specs.DashedString.{Each, Bounded}
 
 -- the sum of the upper bounds
 abbrev pub uppers : List Block → ℕ
@@ -13,7 +13,7 @@ uppers (x ∷ xs) = x .upper + uppers xs
 
 -- l ≤ u, and the set is 8 bytes whose letters are all below m
 pub record Sound (m : ℕ) (x : Block) : Type 0 where
-  pub bounds : x .lower ≤ x .upper
+  pub bounds : Bounded x
   pub bytes : x .base < 2 ^ 64
   pub letters : (c : ℕ) → Member c (x .base) → c < m
 

@@ -8,8 +8,15 @@ use Rattle.model.specs.declared.Verdict.{Verdict}
 use Rattle.model.specs.declared.Verdict.the-variants.{None, All, One, Some}
 use Rattle.model.specs.Set.{has, someBelow, someMember}
 use Rattle.model.specs.Automaton.{Dfa}
-use Rattle.model.specs.Passes.{segments, final, entries}
+use Rattle.model.specs.Passes.{finals, entries}
 use Rattle.model.specs.NormalForm.{normal}
+
+-- the verdicts' numbers at the host (01, "Records")
+abbrev pub number : Verdict → ℕ
+number None = 1
+number All = 2
+number One = 3
+number Some = 4
 
 -- the narrowed mask: the normal form of the narrowed list
 unfoldable pub answer : Dfa → List Block → List Block
@@ -31,8 +38,14 @@ say true false singles = All
 say true true true = One
 say true true false = Some
 
--- the verdict: step 2's E is empty or not, and so are the final states that do not accept (the dead one among them)
+-- some code of the mask is legal: step 2's E is not empty
+unfoldable pub someLegal : Dfa → List Block → Bool
+someLegal b xs = someMember (finals b xs) (has (b .accepting))
+
+-- some code of the mask is not legal: it leads to a state that does not accept, or to the dead state
+unfoldable pub someIllegal : Dfa → List Block → Bool
+someIllegal b xs = someMember (finals b xs) (λ q. not (has (b .accepting) q))
+
+-- the verdict
 unfoldable pub verdict : Dfa → List Block → Verdict
-verdict b xs =
-    let F = final (b .table) (2 ^ b .start) (segments xs) in
-    say (someMember F (has (b .accepting))) (someMember F (λ q. not (has (b .accepting) q))) (every single (answer b xs))
+verdict b xs = say (someLegal b xs) (someIllegal b xs) (every single (answer b xs))
