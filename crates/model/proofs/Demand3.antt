@@ -1,28 +1,29 @@
 -- Demand 3 holds of the definitions: for every book and mask that pass the checks, one theorem.
 -- Assumes nothing.
-use mathlib.Core.Path.{_≡_, refl, ap, _∙_}
+use mathlib.Core.Path.{_≡_, refl, ap}
 use mathlib.Core.Logic.{_↔_}
 use mathlib.Core.Bool.{Bool, true, false, not}
-use mathlib.Core.List.{List, [], _∷_, flatten}
-use Prim.Native.Nat.{ℕ, zero, suc, _+_, _-_, _^_, _≤_, _<_}
+use mathlib.Core.List.{List, [], flatten}
+use Prim.Native.Nat.{ℕ, suc, _+_, _-_, _^_, _<_}
 use native.Mathlib.Omega.{arith}
 use lib.Dec.{T, T-not, not-T}
-use lib.ListN.{length, getD, replicate, List·getD-append, getD-replicate, length-replicate}
+use lib.ListN.{length, getD}
 use Rattle.model.specs.declared.Block.{Block}
 use Rattle.model.specs.declared.Verdict.{Verdict}
 use Rattle.model.specs.declared.Verdict.the-variants.{None, All, One, Some}
-use Rattle.model.specs.Set.{has, Member, someMember}
-use Rattle.model.specs.DashedString.{block, Factorization, Matches}
+use Rattle.model.specs.Set.{has, Member}
+use Rattle.model.specs.DashedString.{block, blockAt, Matches}
 use Rattle.model.specs.Automaton.{Dfa, run, Accepts}
 use Rattle.model.specs.Legal.{Legal, Checked}
-use Rattle.model.specs.Passes.{mandatory, optional, segmentsOf, segments, finals, entries}
-use Rattle.model.specs.Verdict.{number, answer, single, every, say, someLegal, someIllegal, verdict}
+use Rattle.model.specs.Passes.{segments, finals, narrowedList}
+use Rattle.model.specs.Verdict.{number, narrowedMask, single, every, say, someLegal, someIllegal, verdict}
 use Rattle.model.specs.Place.{begins, unlessNone, place}
 use Rattle.model.specs.Demand3.{Has, Puts, Demand3}
-use Rattle.model.proofs.Set.{member, in-none, in-one, one-in, some-member}
+use Rattle.model.proofs.Set.{member, in-none, in-one, some-member}
 use Rattle.model.proofs.Segment.{pruned-exact}
-use Rattle.model.proofs.Segments.{final-in, final-out, narrowed-keeps, all-narrow, narrow-adds}
-use Rattle.model.proofs.Cut.{segments-spell, along, blockAt, SeenAt, seen-at}
+use Rattle.model.proofs.Segments.{final-in, final-out, entries-keep, all-narrow, narrow-adds}
+use Rattle.model.proofs.Cut.{segments-spell}
+use Rattle.model.proofs.Entry.{along-letter, place-segment, start-in, seen-at}
 use Rattle.model.proofs.NormalForm.{normal-spells}
 use Rattle.model.proofs.Room.{narrow-bounded}
 
@@ -39,122 +40,111 @@ say-all true false s = (λ _. (tt, λ h. h), λ _. refl)
 say-all true true true = (λ e. absurd (omega (arith, ap number e)), λ h. absurd (h .1 tt))
 say-all true true false = (λ e. absurd (omega (arith, ap number e)), λ h. absurd (h .1 tt))
 
--- a letter of a piece, by its place among the parts of the piece
-along-letter : (l j : ℕ) (p : List ℕ) → j < l → getD (getD (along l p) j []) 0 64 ≡ getD p j 64
-along-letter zero j p h = absurd (omega arith)
-along-letter (suc l) zero [] h = refl
-along-letter (suc l) zero (c ∷ p) h = refl
-along-letter (suc l) (suc j) [] h = along-letter l j [] (omega arith)
-along-letter (suc l) (suc j) (c ∷ p) h = along-letter l j p (omega arith)
-
--- a mandatory place of a block is a segment of its letters
-place-segment : (x : Block) (j : ℕ) → j < x .lower → getD (segmentsOf x) j (optional 0 0) ≡ mandatory (x .base)
-place-segment x j h =
-    List·getD-append (replicate (x .lower) (mandatory (x .base))) (optional (x .base) (x .upper - x .lower) ∷ []) (optional 0 0) j (omega (arith, length-replicate (x .lower) (mandatory (x .base))))
-    ∙ getD-replicate (x .lower) j (mandatory (x .base)) (optional 0 0) h
-
 -- what is not refuted by a test holds of it
 stable : (v : Bool) → ¬ (¬ T v) → T v
 stable true h = tt
 stable false h = h (λ f. f)
 
 module _ (b : Dfa) (xs : List Block) (ok : Checked b xs) where
-  start-in : Member (b .start) (2 ^ b .start)
-  start-in = one-in (omega (arith, ok .states, ok .start))
-
   -- ---- the verdict
 
   -- the final states are those to which the codes of the mask lead
   in-finals : {r : ℕ} → Member r (finals b xs) ↔ ((w : List ℕ) × Matches xs w × (run (b .table) (b .start) w ≡ r))
   unfolding finals
-  in-finals =
-      ( λ h.
-          let (q, m, qs, f, e) = final-in b (ok .states) (2 ^ b .start) (segments xs) h in
-          (flatten qs, segments-spell xs (ok .bounds) (flatten qs) .0 (qs, f, refl), rw (in-one m) at e)
-      , λ (w, s, e).
-          let (qs, f, d) = segments-spell xs (ok .bounds) w .1 s in
-          rw (d, e) at (final-out b (ok .states) (2 ^ b .start) (segments xs) start-in f) )
+  in-finals = (
+    λ h.
+        let (q, m, qs, f, e) = final-in b (ok .states) (2 ^ b .start) (segments xs) h in
+        (flatten qs, segments-spell xs (ok .bounds) (flatten qs) .0 (qs, f, refl), rw (in-one m) at e),
+    λ (w, s, e).
+        let (qs, f, d) = segments-spell xs (ok .bounds) w .1 s in
+        rw (d, e) at (final-out b (ok .states) (2 ^ b .start) (segments xs) (start-in b xs ok) f),
+  )
 
   some-legal : T (someLegal b xs) ↔ ((w : List ℕ) × Legal b xs w)
   unfolding someLegal
-  some-legal =
-      ( λ h.
-          let (r, m, a) = some-member (finals b xs) (has (b .accepting)) .0 h in
-          let (w, s, e) = in-finals .0 m in
-          (w, (s, rw e (member (m .small) a)))
-      , λ (w, (s, a)). some-member (finals b xs) (has (b .accepting)) .1 (run (b .table) (b .start) w, in-finals .1 (w, s, refl), a .there) )
+  some-legal = (
+    λ h.
+        let (r, m, a) = some-member (finals b xs) (has (b .accepting)) .0 h in
+        let (w, s, e) = in-finals .0 m in
+        (w, (s, rw e (member (m .small) a))),
+    λ (w, (s, a)). some-member (finals b xs) (has (b .accepting)) .1 (run (b .table) (b .start) w, in-finals .1 (w, s, refl), a .there),
+  )
 
   some-illegal : T (someIllegal b xs) ↔ ((w : List ℕ) × Matches xs w × ¬ Accepts b w)
   unfolding someIllegal
-  some-illegal =
-      ( λ h.
-          let (r, m, n) = some-member (finals b xs) (λ q. not (has (b .accepting) q)) .0 h in
-          let (w, s, e) = in-finals .0 m in
-          (w, s, λ a. T-not (has (b .accepting) r) n (rw e at (a .there)))
-      , λ (w, s, n).
-          let q = run (b .table) (b .start) w in
-          let m = in-finals .1 (w, s, refl) in
-          some-member (finals b xs) (λ q. not (has (b .accepting) q)) .1 (q, m, not-T (has (b .accepting) q) (λ a. n (member (m .small) a))) )
+  some-illegal = (
+    λ h.
+        let (r, m, n) = some-member (finals b xs) (λ q. not (has (b .accepting) q)) .0 h in
+        let (w, s, e) = in-finals .0 m in
+        (w, s, λ a. T-not (has (b .accepting) r) n (rw e at (a .there))),
+    λ (w, s, n).
+        let q = run (b .table) (b .start) w in
+        let m = in-finals .1 (w, s, refl) in
+        some-member (finals b xs) (λ q. not (has (b .accepting) q)) .1 (q, m, not-T (has (b .accepting) q) (λ a. n (member (m .small) a))),
+  )
 
   none-exact : (verdict b xs ≡ None) ↔ ((w : List ℕ) → ¬ Legal b xs w)
   unfolding verdict
-  none-exact =
-      ( λ e w l. said .0 e (some-legal .1 (w, l))
-      , λ h. said .1 (λ g. let (w, l) = some-legal .0 g in h w l) )
+  none-exact = (
+    λ e w l. said .0 e (some-legal .1 (w, l)),
+    λ h. said .1 (λ g. let (w, l) = some-legal .0 g in h w l),
+  )
     where
       said : (verdict b xs ≡ None) ↔ (¬ T (someLegal b xs))
-      said = say-none (someLegal b xs) (someIllegal b xs) (every single (answer b xs))
+      said = say-none (someLegal b xs) (someIllegal b xs) (every single (narrowedMask b xs))
 
   -- where no code is illegal, each is accepted
   accepted : ¬ T (someIllegal b xs) → (w : List ℕ) → Matches xs w → Accepts b w
   accepted i w s =
       member (in-finals .1 (w, s, refl) .small)
-        (stable (has (b .accepting) (run (b .table) (b .start) w)) (λ n. i (some-illegal .1 (w, s, λ a. n (a .there)))))
+      (stable (has (b .accepting) (run (b .table) (b .start) w)) (λ n. i (some-illegal .1 (w, s, λ a. n (a .there)))))
 
   all-exact : (verdict b xs ≡ All) ↔ (((w : List ℕ) × Matches xs w) × ((w : List ℕ) → Matches xs w → Legal b xs w))
   unfolding verdict
-  all-exact =
-      ( λ e. let (l, i) = said .0 e in let (w, (s, a)) = some-legal .0 l in ((w, s), λ w s. (s, accepted i w s))
-      , λ ((w, s), f). said .1 (some-legal .1 (w, f w s), λ g. let (w, s, n) = some-illegal .0 g in n (f w s .1)) )
+  all-exact = (
+    λ e. let (l, i) = said .0 e in let (w, (s, a)) = some-legal .0 l in ((w, s), λ w s. (s, accepted i w s)),
+    λ ((w, s), f). said .1 (some-legal .1 (w, f w s), λ g. let (w, s, n) = some-illegal .0 g in n (f w s .1)),
+  )
     where
       said : (verdict b xs ≡ All) ↔ (T (someLegal b xs) × ¬ T (someIllegal b xs))
-      said = say-all (someLegal b xs) (someIllegal b xs) (every single (answer b xs))
+      said = say-all (someLegal b xs) (someIllegal b xs) (every single (narrowedMask b xs))
 
   -- ---- the narrowed mask
 
   -- the narrowed mask spells what the narrowed list spells
-  answer-spells : (w : List ℕ) → Matches (answer b xs) w ↔ Matches (entries b xs) w
-  unfolding answer entries
-  answer-spells = normal-spells (entries b xs) (narrow-bounded (all-narrow b (2 ^ b .start) (segments xs)))
+  mask-spells : (w : List ℕ) → Matches (narrowedMask b xs) w ↔ Matches (narrowedList b xs) w
+  unfolding narrowedMask narrowedList
+  mask-spells = normal-spells (narrowedList b xs) (narrow-bounded (all-narrow b (2 ^ b .start) (segments xs)))
 
-  keeps : (w : List ℕ) → Legal b xs w → Matches (answer b xs) w
-  unfolding entries
+  keeps : (w : List ℕ) → Legal b xs w → Matches (narrowedMask b xs) w
+  unfolding narrowedList
   keeps w (s, a) =
       let (qs, f, e) = segments-spell xs (ok .bounds) w .1 s in
-      answer-spells w .1 (qs, narrowed-keeps b (ok .states) (2 ^ b .start) (segments xs) start-in f (rw e a), e)
+      mask-spells w .1 (qs, entries-keep b (ok .states) (2 ^ b .start) (segments xs) (start-in b xs ok) f (rw e a), e)
 
-  adds : (w : List ℕ) → Matches (answer b xs) w → Matches xs w
-  unfolding entries
+  adds : (w : List ℕ) → Matches (narrowedMask b xs) w → Matches xs w
+  unfolding narrowedList
   adds w h =
-      let (qs, f, e) = answer-spells w .0 h in
+      let (qs, f, e) = mask-spells w .0 h in
       segments-spell xs (ok .bounds) w .0 (qs, narrow-adds (all-narrow b (2 ^ b .start) (segments xs)) f, e)
 
   -- ---- the mandatory places
 
   -- the entry of a place has exactly the letters that the legal codes have there
   entry-exact : (i j c : ℕ) → i < length xs → j < blockAt xs i .lower
-      → Member c (getD (entries b xs) (begins xs i + j) (block 0 0 0) .base) ↔ Has b xs (λ ps. getD (getD ps i []) j 64 ≡ c)
+      → Member c (getD (narrowedList b xs) (begins xs i + j) (block 0 0 0) .base) ↔ Has b xs (λ ps. getD (getD ps i []) j 64 ≡ c)
   entry-exact i j c h l =
       let x = blockAt xs i in
       let s = seen-at b xs ok i j h (omega arith) in
       let P : List ℕ → Type 0 = λ p. getD p 0 64 ≡ c in
-      let exact = pruned-exact (b .table) (ok .states) (x .base) (s .from) (s .to) {c = c} in
-      ( λ m.
-          let (ps, f, a, e) = s .ways P .0 (rw (place-segment x j l) (exact .0 (rw (s .entry, place-segment x j l) at m))) in
-          (ps, f, a, rw (along-letter (x .lower) j (getD ps i []) l) at e)
-      , λ (ps, f, a, e).
-          rw (s .entry, place-segment x j l)
-            (exact .1 (rw (place-segment x j l) at (s .ways P .1 (ps, f, a, rw (along-letter (x .lower) j (getD ps i []) l) e)))) )
+      let exact = pruned-exact (b .table) (ok .states) (x .base) (s .from) (s .to) {c = c} in (
+        λ m.
+            let (ps, f, a, e) = s .ways P .0 (rw (place-segment x j l) (exact .0 (rw (s .entry, place-segment x j l) at m))) in
+            (ps, f, a, rw (along-letter (x .lower) j (getD ps i []) l) at e),
+        λ (ps, f, a, e).
+            rw (s .entry, place-segment x j l)
+            (exact .1 (rw (place-segment x j l) at (s .ways P .1 (ps, f, a, rw (along-letter (x .lower) j (getD ps i []) l) e)))),
+      )
 
   -- and so has the set that place returns; for none it is empty, and no code is legal
   places : (i j c : ℕ) → i < length xs → j < blockAt xs i .lower
@@ -166,19 +156,19 @@ module _ (b : Dfa) (xs : List Block) (ok : Checked b xs) where
       down n = omega arith
 
       go : (v : Verdict) → verdict b xs ≡ v
-          → Member c (unlessNone v (getD (entries b xs) (begins xs i + j) (block 0 0 0)) .base) ↔ Has b xs (λ ps. getD (getD ps i []) j 64 ≡ c)
+          → Member c (unlessNone v (getD (narrowedList b xs) (begins xs i + j) (block 0 0 0)) .base) ↔ Has b xs (λ ps. getD (getD ps i []) j 64 ≡ c)
       go None e = (λ m. absurd (in-none m), λ (ps, f, a, _). absurd (none-exact .0 e (flatten ps) ((ps, f, refl), a)))
       go All e = entry-exact i j c h l
       go One e = entry-exact i j c h l
       go Some e = entry-exact i j c h l
 
 -- for every book and mask that pass the checks: the verdict, the narrowed mask and the sets that place returns are as demand 3 says
-pub demand-3 : (b : Dfa) (xs : List Block) → Checked b xs → Demand3 b xs (verdict b xs) (answer b xs) (λ i j. place b xs i j .base)
+pub demand-3 : (b : Dfa) (xs : List Block) → Checked b xs → Demand3 b xs (verdict b xs) (narrowedMask b xs) (λ i j. place b xs i j .base)
 demand-3 b xs ok =
-    record
-      { none = none-exact b xs ok
-      ; all = all-exact b xs ok
-      ; keeps = keeps b xs ok
-      ; adds = λ _. adds b xs ok
-      ; places = places b xs ok
-      }
+    record {
+      none = none-exact b xs ok;
+      all = all-exact b xs ok;
+      keeps = keeps b xs ok;
+      adds = λ _. adds b xs ok;
+      places = places b xs ok;
+    }

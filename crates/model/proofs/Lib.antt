@@ -1,8 +1,11 @@
 pub mod Set
+pub mod Automaton
 pub mod Words
+pub mod Steps
 pub mod Segment
 pub mod Segments
 pub mod Cut
+pub mod Entry
 pub mod NormalForm
 pub mod Room
 pub mod Demand3

@@ -8,17 +8,17 @@ use lib.ListN.{length, replicate}
 use Rattle.model.specs.declared.Block.{Block}
 use Rattle.model.specs.DashedString.{block, Each, Bounded}
 use Rattle.model.specs.Automaton.{Dfa}
-use Rattle.model.specs.Passes.{Segment, mandatory, optional, segments, entries}
+use Rattle.model.specs.Passes.{Segment, mandatory, optional, segments, narrowedList}
 use Rattle.model.specs.NormalForm.{normal, Reduced}
-use Rattle.model.specs.Verdict.{answer}
-use Rattle.model.specs.Size.{uppers, Sound, Room, Fits}
+use Rattle.model.specs.Verdict.{narrowedMask}
+use Rattle.model.specs.Size.{uppers, WellFormed, Room, Fits}
 use Rattle.model.proofs.Segment.{asBlock}
 use Rattle.model.proofs.Segments.{AllNarrow, none, more, all-narrow}
 use Rattle.model.proofs.NormalForm.{merged, Normalizes, nothing, drops, keeps, joins, normalizes, each-normal, idle-positive, normal-reduced}
 
--- joining keeps blocks sound
-sound-merged : (m : ℕ) (x y : Block) → x .base ≡ y .base → Sound m x → Sound m y → Sound m (merged x y)
-sound-merged m x y e a b = record { bounds = omega arith; bytes = a .bytes; letters = a .letters }
+-- joining keeps blocks well-formed
+formed-merged : (m : ℕ) (x y : Block) → x .base ≡ y .base → WellFormed m x → WellFormed m y → WellFormed m (merged x y)
+formed-merged m x y e a b = record { bounds = omega arith; bytes = a .bytes; letters = a .letters }
 
 -- dropping does not raise the sum of the upper bounds, and joining keeps it
 uppers-normal : {xs ys : List Block} → Normalizes xs ys → uppers ys ≤ uppers xs
@@ -30,7 +30,7 @@ uppers-normal (joins i e n) = omega (arith, uppers-normal n)
 -- the normal form has room where the mask has
 pub normal-room : (m : ℕ) (xs : List Block) → Room m xs → Room m (normal xs)
 normal-room m xs r =
-    record { each = each-normal (Sound m) (sound-merged m) (normalizes xs) (r .each); sum = omega (arith, uppers-normal (normalizes xs)) }
+    record { each = each-normal (WellFormed m) (formed-merged m) (normalizes xs) (r .each); sum = omega (arith, uppers-normal (normalizes xs)) }
 
 -- a reduced mask has no more blocks than its upper bounds sum to: none of them is 0
 reduced-few : (xs : List Block) → Reduced xs → length xs ≤ uppers xs
@@ -47,7 +47,7 @@ normal-fits m xs r = record { few = omega (arith, normal-few xs); room = normal-
 
 -- ---- the narrowed list
 
--- where each entry narrows its segment, bounds and uppers are as the segments have them, and sets are sound where theirs are
+-- where each entry narrows its segment, bounds and uppers are as the segments have them, and blocks well-formed where theirs are
 pub narrow-bounded : {ss : List Segment} {ys : List Block} → AllNarrow ss ys → Each Bounded ys
 narrow-bounded none = tt
 narrow-bounded (more n r) = (n .bounds, narrow-bounded r)
@@ -56,10 +56,10 @@ narrow-uppers : {ss : List Segment} {ys : List Block} → AllNarrow ss ys → up
 narrow-uppers none = refl
 narrow-uppers (more n r) = omega (arith, n .upper, narrow-uppers r)
 
-narrow-sound : (m : ℕ) {ss : List Segment} {ys : List Block} → AllNarrow ss ys → Each (Sound m) (map asBlock ss) → Each (Sound m) ys
-narrow-sound m none h = tt
-narrow-sound m (more n r) (h, hs) =
-    (record { bounds = n .bounds; bytes = n .bytes; letters = λ c k. h .letters c (n .within c k) }, narrow-sound m r hs)
+narrow-formed : (m : ℕ) {ss : List Segment} {ys : List Block} → AllNarrow ss ys → Each (WellFormed m) (map asBlock ss) → Each (WellFormed m) ys
+narrow-formed m none h = tt
+narrow-formed m (more n r) (h, hs) =
+    (record { bounds = n .bounds; bytes = n .bytes; letters = λ c k. h .letters c (n .within c k) }, narrow-formed m r hs)
 
 -- the segments of a mask have its letters, and its uppers where l ≤ u
 module _ (S : ℕ) (w : ℕ) (ss : List Segment) where
@@ -72,31 +72,31 @@ module _ (S : ℕ) (w : ℕ) (ss : List Segment) where
   row-each P p o r zero = (o, r)
   row-each P p o r (suc l) = (p, row-each P p o r l)
 
-segments-uppers : (m : ℕ) (xs : List Block) → Each (Sound m) xs → uppers (map asBlock (segments xs)) ≡ uppers xs
+segments-uppers : (m : ℕ) (xs : List Block) → Each (WellFormed m) xs → uppers (map asBlock (segments xs)) ≡ uppers xs
 segments-uppers m [] h = refl
 segments-uppers m (x ∷ xs) (h, hs) =
     omega (arith, row-uppers (x .base) (x .upper - x .lower) (segments xs) (x .lower), segments-uppers m xs hs, h .bounds)
 
-segments-sound : (m : ℕ) (xs : List Block) → Each (Sound m) xs → Each (Sound m) (map asBlock (segments xs))
-segments-sound m [] h = tt
-segments-sound m (x ∷ xs) (h, hs) =
-    row-each (x .base) (x .upper - x .lower) (segments xs) (Sound m) (of 1 1 (omega arith)) (of 0 (x .upper - x .lower) (omega arith))
-      (segments-sound m xs hs) (x .lower)
+segments-formed : (m : ℕ) (xs : List Block) → Each (WellFormed m) xs → Each (WellFormed m) (map asBlock (segments xs))
+segments-formed m [] h = tt
+segments-formed m (x ∷ xs) (h, hs) =
+    row-each (x .base) (x .upper - x .lower) (segments xs) (WellFormed m) (of 1 1 (omega arith)) (of 0 (x .upper - x .lower) (omega arith))
+    (segments-formed m xs hs) (x .lower)
   where
-    of : (l u : ℕ) → l ≤ u → Sound m (block (x .base) l u)
+    of : (l u : ℕ) → l ≤ u → WellFormed m (block (x .base) l u)
     of l u k = record { bounds = k; bytes = h .bytes; letters = h .letters }
 
 -- the narrowed list has room where the mask has
-entries-room : (b : Dfa) (m : ℕ) (xs : List Block) → Room m xs → Room m (entries b xs)
-unfolding entries
-entries-room b m xs r =
+list-room : (b : Dfa) (m : ℕ) (xs : List Block) → Room m xs → Room m (narrowedList b xs)
+unfolding narrowedList
+list-room b m xs r =
     let n = all-narrow b (2 ^ b .start) (segments xs) in
-    record
-      { each = narrow-sound m n (segments-sound m xs (r .each))
-      ; sum = omega (arith, r .sum, narrow-uppers n, segments-uppers m xs (r .each))
-      }
+    record {
+      each = narrow-formed m n (segments-formed m xs (r .each));
+      sum = omega (arith, r .sum, narrow-uppers n, segments-uppers m xs (r .each));
+    }
 
 -- the narrowed mask can be written and narrowed again
-pub answer-fits : (b : Dfa) (m : ℕ) (xs : List Block) → Room m xs → Fits m (answer b xs)
-unfolding answer
-answer-fits b m xs r = normal-fits m (entries b xs) (entries-room b m xs r)
+pub mask-fits : (b : Dfa) (m : ℕ) (xs : List Block) → Room m xs → Fits m (narrowedMask b xs)
+unfolding narrowedMask
+mask-fits b m xs r = normal-fits m (narrowedList b xs) (list-room b m xs r)

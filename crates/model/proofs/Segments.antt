@@ -1,5 +1,5 @@
--- All segments: each pass by the words that the row spells, each an induction over the row that uses only the laws of
--- one segment; and `seen`, from which every claim about one entry follows.
+-- All segments: each pass by the pieces along the row, by inductions that use only the laws of one segment; and `seen`,
+-- from which every claim about one entry follows.
 -- Assumes nothing.
 use mathlib.Core.Path.{_≡_, refl}
 use mathlib.Core.Logic.{_↔_}
@@ -11,34 +11,55 @@ use Rattle.model.specs.declared.Block.{Block}
 use Rattle.model.specs.Set.{Member}
 use Rattle.model.specs.DashedString.{block, Piece, Factorization, done, then}
 use Rattle.model.specs.Automaton.{Dfa, run}
-use Rattle.model.specs.Passes.{Segment, optional, forward, backward, pruned, final, kept, narrowed}
+use Rattle.model.specs.Passes.{Segment, optional, forward, pruned, final, kept, entries}
 use Rattle.model.proofs.Set.{in-both}
 use Rattle.model.proofs.Words.{run-append}
-use Rattle.model.proofs.Segment.{asBlock, Over, in-forward, in-backward, Narrows, pruned-narrows, narrows-adds, pruned-keeps}
+use Rattle.model.proofs.Segment.{asBlock, Narrows, pruned-narrows, narrows-adds, Over, in-forward, in-backward, pruned-keeps}
 
 -- one piece for each segment, in order
 abbrev pub Parts : List Segment → List (List ℕ) → Type 0
 Parts ss ps = Factorization (map asBlock ss) ps
 
--- pieces that have the property lead from a state of Q to an accepting state
-abbrev pub Through : Dfa → ℕ → List Segment → (List (List ℕ) → Type 0) → Type 0
-Through b Q ss P = (q : ℕ) × Member q Q × (ps : List (List ℕ)) × Parts ss ps × Member (run (b .table) q (flatten ps)) (b .accepting) × P ps
+-- ---- each entry narrows its segment
 
--- each entry narrows its segment
 pub data AllNarrow : List Segment → List Block → Type 0 where
   none : AllNarrow [] []
   more : {s : Segment} {ss : List Segment} {y : Block} {ys : List Block} → Narrows (asBlock s) y → AllNarrow ss ys → AllNarrow (s ∷ ss) (y ∷ ys)
 
-pub all-narrow : (b : Dfa) (Q : ℕ) (ss : List Segment) → AllNarrow ss (narrowed b Q ss)
-unfolding narrowed
+pub all-narrow : (b : Dfa) (Q : ℕ) (ss : List Segment) → AllNarrow ss (entries b Q ss)
+unfolding entries
 all-narrow b Q [] = none
-all-narrow b Q (s ∷ ss) =
-    let P = forward (b .table) Q s in more (pruned-narrows (b .table) Q s (kept b P ss)) (all-narrow b P ss)
+all-narrow b Q (s ∷ ss) = let P = forward (b .table) Q s in more (pruned-narrows (b .table) Q s (kept b P ss)) (all-narrow b P ss)
 
 -- so nothing new is spelled
 pub narrow-adds : {ss : List Segment} {ys : List Block} {ps : List (List ℕ)} → AllNarrow ss ys → Factorization ys ps → Parts ss ps
 narrow-adds none done = done
 narrow-adds (more n r) (then g f) = then (narrows-adds n g) (narrow-adds r f)
+
+-- ---- the ways ahead
+
+-- pieces along the segments that have the property lead from q to an accepting state
+abbrev pub Ahead : Dfa → ℕ → List Segment → (List (List ℕ) → Type 0) → Type 0
+Ahead b q ss P = (ps : List (List ℕ)) × Parts ss ps × Member (run (b .table) q (flatten ps)) (b .accepting) × P ps
+
+module _ (b : Dfa) (q : ℕ) (P : List (List ℕ) → Type 0) where
+  -- behind the last segment, where q accepts
+  ahead-nil : Ahead b q [] P ↔ (Member q (b .accepting) × P [])
+  unfolding flatten
+  ahead-nil = (λ (ps, f, e, x). go f e x, λ (e, x). ([], done, e, x))
+    where
+      go : {ps : List (List ℕ)} → Parts [] ps → Member (run (b .table) q (flatten ps)) (b .accepting) → P ps → Member q (b .accepting) × P []
+      go done e x = (e, x)
+
+  -- before a segment, over a piece of it and on from there
+  ahead-cons : (s : Segment) (ss : List Segment) → Ahead b q (s ∷ ss) P
+      ↔ ((p : List ℕ) × Piece (asBlock s) p × Ahead b (run (b .table) q p) ss (λ ps. P (p ∷ ps)))
+  unfolding flatten
+  ahead-cons s ss = (λ (ps, f, e, x). go f e x, λ (p, g, (ps, f, e, x)). (p ∷ ps, then g f, rw run-append e, x))
+    where
+      go : {ps : List (List ℕ)} → Parts (s ∷ ss) ps → Member (run (b .table) q (flatten ps)) (b .accepting) → P ps
+          → (p : List ℕ) × Piece (asBlock s) p × Ahead b (run (b .table) q p) ss (λ ps. P (p ∷ ps))
+      go (then {p} {ps} g f) e x = (p, g, (ps, f, rw run-append at e, x))
 
 module _ (b : Dfa) (fits : b .table .states < 64) where
   -- a piece leads from a state before the segment to one behind it
@@ -61,84 +82,70 @@ module _ (b : Dfa) (fits : b .table .states < 64) where
   final-out Q [] m done = m
   final-out Q (s ∷ ss) m (then g f) = rw run-append (final-out (forward (b .table) Q s) ss (behind Q s m g) f)
 
-  -- a state is kept exactly when it is possible and pieces lead from it to an accepting state
-  kept-in : (Q : ℕ) (ss : List Segment) {q : ℕ} → Member q (kept b Q ss)
-      → Member q Q × (ps : List (List ℕ)) × Parts ss ps × Member (run (b .table) q (flatten ps)) (b .accepting)
-  unfolding kept flatten
-  kept-in Q [] h = let (m, e) = in-both Q (b .accepting) .0 h in (m, [], done, e)
-  kept-in Q (s ∷ ss) {q} h =
-      let (m, p, g, k) = in-backward (b .table) fits Q s (kept b (forward (b .table) Q s) ss) .0 h in
-      let (_, ps, f, e) = kept-in (forward (b .table) Q s) ss {q = run (b .table) q p} k in
-      (m, p ∷ ps, then g f, rw run-append e)
-
-  kept-out : (Q : ℕ) (ss : List Segment) {q : ℕ} {ps : List (List ℕ)} → Member q Q → Parts ss ps
-      → Member (run (b .table) q (flatten ps)) (b .accepting) → Member q (kept b Q ss)
-  unfolding kept flatten
-  kept-out Q [] m done e = in-both Q (b .accepting) .1 (m, e)
-  kept-out Q (s ∷ ss) m (then {p} g f) e =
-      in-backward (b .table) fits Q s (kept b (forward (b .table) Q s) ss) .1
-        (m, p, g, kept-out (forward (b .table) Q s) ss (behind Q s m g) f (rw run-append at e))
+  -- a state is kept exactly when it is possible and there is a way ahead
+  in-kept : (Q : ℕ) (ss : List Segment) {q : ℕ} → Member q (kept b Q ss) ↔ (Member q Q × Ahead b q ss (λ ps. Unit {0}))
+  unfolding kept
+  in-kept Q [] {q} = (
+    λ h. let (m, e) = in-both Q (b .accepting) .0 h in (m, ahead-nil b q _ .1 (e, tt)),
+    λ (m, a). in-both Q (b .accepting) .1 (m, ahead-nil b q _ .0 a .0),
+  )
+  in-kept Q (s ∷ ss) {q} =
+      let P = forward (b .table) Q s in (
+        λ h.
+            let (m, p, g, k) = in-backward (b .table) fits Q s (kept b P ss) .0 h in
+            (m, ahead-cons b q _ s ss .1 (p, g, in-kept P ss .0 k .1)),
+        λ (m, a).
+            let (p, g, r) = ahead-cons b q _ s ss .0 a in
+            in-backward (b .table) fits Q s (kept b P ss) .1 (m, p, g, in-kept P ss .1 (behind Q s m g, r)),
+      )
 
   -- pieces that lead to an accepting state are still spelled
-  pub narrowed-keeps : (Q : ℕ) (ss : List Segment) {q : ℕ} {ps : List (List ℕ)} → Member q Q → Parts ss ps
-      → Member (run (b .table) q (flatten ps)) (b .accepting) → Factorization (narrowed b Q ss) ps
-  unfolding narrowed flatten
-  narrowed-keeps Q [] m done e = done
-  narrowed-keeps Q (s ∷ ss) m (then g f) e =
+  pub entries-keep : (Q : ℕ) (ss : List Segment) {q : ℕ} {ps : List (List ℕ)} → Member q Q → Parts ss ps
+      → Member (run (b .table) q (flatten ps)) (b .accepting) → Factorization (entries b Q ss) ps
+  unfolding entries flatten
+  entries-keep Q [] m done e = done
+  entries-keep Q (s ∷ ss) m (then {p} {ps} g f) e =
       let P = forward (b .table) Q s in
       let m' = behind Q s m g in
       let e' = rw run-append at e in
-      then (pruned-keeps (b .table) fits Q s (kept b P ss) m g (kept-out P ss m' f e')) (narrowed-keeps P ss m' f e')
+      then (pruned-keeps (b .table) fits Q s (kept b P ss) m g (in-kept P ss .1 (m', (ps, f, e', tt)))) (entries-keep P ss m' f e')
 
-  -- the first piece of a row, and the rest
-  peeled : (Q : ℕ) (s : Segment) (ss : List Segment) (P : List (List ℕ) → Type 0) → Through b Q (s ∷ ss) P
-      ↔ ((q : ℕ) × Member q Q × (p : List ℕ) × Piece (asBlock s) p
-          × (ps : List (List ℕ)) × Parts ss ps × Member (run (b .table) (run (b .table) q p) (flatten ps)) (b .accepting) × P (p ∷ ps))
-  unfolding flatten
-  peeled Q s ss P = (λ (q, m, ps, f, e, x). go q m f e x, λ (q, m, p, g, ps, f, e, x). (q, m, p ∷ ps, then g f, rw run-append e, x))
-    where
-      go : (q : ℕ) {ps : List (List ℕ)} → Member q Q → Parts (s ∷ ss) ps → Member (run (b .table) q (flatten ps)) (b .accepting) → P ps
-          → (q : ℕ) × Member q Q × (p : List ℕ) × Piece (asBlock s) p
-            × (ps : List (List ℕ)) × Parts ss ps × Member (run (b .table) (run (b .table) q p) (flatten ps)) (b .accepting) × P (p ∷ ps)
-      go q m (then {p} {ps} g f) e x = (q, m, p, g, ps, f, rw run-append at e, x)
+  -- ---- one entry
 
   -- what entry k is: its segment pruned between two sets of states, between which a way with a property leads over the
-  -- segment exactly when pieces of the whole row, the k-th with that property, lead to an accepting state
+  -- segment exactly when pieces along the whole row, the k-th with that property, lead from Q to an accepting state
   pub record Seen (Q : ℕ) (ss : List Segment) (k : ℕ) : Type 1 where
     pub from : ℕ
     pub to : ℕ
-    pub entry : getD (narrowed b Q ss) k (block 0 0 0) ≡ pruned (b .table) from (getD ss k (optional 0 0)) to
-    pub ways : (P : List ℕ → Type 0) → Over (b .table) from (getD ss k (optional 0 0)) to P ↔ Through b Q ss (λ ps. P (getD ps k []))
+    pub entry : getD (entries b Q ss) k (block 0 0 0) ≡ pruned (b .table) from (getD ss k (optional 0 0)) to
+    pub ways : (P : List ℕ → Type 0) → Over (b .table) from (getD ss k (optional 0 0)) to P
+        ↔ ((q : ℕ) × Member q Q × Ahead b q ss (λ ps. P (getD ps k [])))
 
   pub seen : (Q : ℕ) (ss : List Segment) (k : ℕ) → k < length ss → Seen Q ss k
-  unfolding narrowed
+  unfolding entries
   seen Q [] k l = absurd (omega arith)
   seen Q (s ∷ ss) zero l =
-      let E = kept b (forward (b .table) Q s) ss in
-      record
-        { from = Q
-        ; to = E
-        ; entry = refl
-        ; ways = λ P.
-            ( λ (q, m, p, g, k, x).
-                let (_, ps, f, e) = kept-in (forward (b .table) Q s) ss k in
-                peeled Q s ss (λ ps. P (getD ps 0 [])) .1 (q, m, p, g, ps, f, e, x)
-            , λ h.
-                let (q, m, p, g, ps, f, e, x) = peeled Q s ss (λ ps. P (getD ps 0 [])) .0 h in
-                (q, m, p, g, kept-out (forward (b .table) Q s) ss (behind Q s m g) f e, x) )
-        }
+      let P = forward (b .table) Q s in
+      record {
+        from = Q;
+        to = kept b P ss;
+        entry = refl;
+        ways = λ X. (
+          λ (q, m, p, g, k, x). let (ps, f, e, _) = in-kept P ss .0 k .1 in (q, m, ahead-cons b q _ s ss .1 (p, g, (ps, f, e, x))),
+          λ (q, m, a). let (p, g, (ps, f, e, x)) = ahead-cons b q _ s ss .0 a in (q, m, p, g, in-kept P ss .1 (behind Q s m g, (ps, f, e, tt)), x),
+        );
+      }
   seen Q (s ∷ ss) (suc k) l =
       let rest = seen (forward (b .table) Q s) ss k (omega arith) in
-      record
-        { from = rest .from
-        ; to = rest .to
-        ; entry = rest .entry
-        ; ways = λ P.
-            ( λ h.
-                let (q', m', ps, f, e', x) = rest .ways P .0 h in
-                let (q, m, p, g, e) = in-forward (b .table) fits Q s .0 m' in
-                peeled Q s ss (λ ps. P (getD ps (suc k) [])) .1 (q, m, p, g, ps, f, rw e e', x)
-            , λ h.
-                let (q, m, p, g, ps, f, e, x) = peeled Q s ss (λ ps. P (getD ps (suc k) [])) .0 h in
-                rest .ways P .1 (run (b .table) q p, behind Q s m g, ps, f, e, x) )
-        }
+      record {
+        from = rest .from;
+        to = rest .to;
+        entry = rest .entry;
+        ways = λ X. (
+          λ h.
+              let (r, m', a) = rest .ways X .0 h in
+              let (q, m, p, g, e) = in-forward (b .table) fits Q s .0 m' in
+              (q, m, ahead-cons b q _ s ss .1 (p, g, rw e a)),
+          λ (q, m, a). let (p, g, r) = ahead-cons b q _ s ss .0 a in rest .ways X .1 (run (b .table) q p, behind Q s m g, r),
+        );
+      }

@@ -1,16 +1,16 @@
 -- What is in a set that was made: of one number, of two sets, by a test, by a union.
 -- Assumes nothing.
-use mathlib.Core.Path.{_≡_, refl, sym, ap, ap₂, _∙_, subst}
+use mathlib.Core.Path.{_≡_, refl, ap}
 use mathlib.Core.Logic.{_↔_, _⊎_, inl, inr, ⊎-elim}
-use mathlib.Core.Bool.{Bool, true, false, not, cond, _&&_, _||_}
-use Prim.Native.Nat.{ℕ, zero, suc, _+_, _*_, _/_, _%_, _^_, _≤_, _<_, min, max}
+use mathlib.Core.Bool.{Bool, true, false, cond, _&&_, _||_}
+use Prim.Native.Nat.{ℕ, zero, suc, _/_, _%_, _^_, _<_, min, max}
 use native.Mathlib.Nat.{pow-suc, zero-div, mul-div-cancel}
 use native.Mathlib.Numerals.{one-add}
 use native.Mathlib.Decide.{le-ind}
 use native.Mathlib.Omega.{arith}
 use borrow.Author.Tests.{ne-eqb}
 use lib.Bits.{bitAnd, bitOr, and-step, or-step, and-shr, or-shr, or-lt}
-use lib.Dec.{T, eqb, eqb→eq, eqb-refl}
+use lib.Dec.{T, eqb}
 use lib.Pow.{shr-shr, pow-lt}
 use Rattle.model.specs.Set.{has, Member, both, either, someBelow, unionBelow, someMember, members, unionOf}
 
@@ -47,13 +47,13 @@ has-both : (s t i : ℕ) → has (both s t) i ≡ (has s i && has t i)
 unfolding has
 has-both s t i =
     rw (and-shr s t i, odd-and (s / 2 ^ i) (t / 2 ^ i))
-      (digits (λ x y. eqb (min x y) 1 ≡ (eqb x 1 && eqb y 1)) refl refl refl refl (s / 2 ^ i) (t / 2 ^ i))
+    (digits (λ x y. eqb (min x y) 1 ≡ (eqb x 1 && eqb y 1)) refl refl refl refl (s / 2 ^ i) (t / 2 ^ i))
 
 has-either : (s t i : ℕ) → has (either s t) i ≡ (has s i || has t i)
 unfolding has
 has-either s t i =
     rw (or-shr s t i, odd-or (s / 2 ^ i) (t / 2 ^ i))
-      (digits (λ x y. eqb (max x y) 1 ≡ (eqb x 1 || eqb y 1)) refl refl refl refl (s / 2 ^ i) (t / 2 ^ i))
+    (digits (λ x y. eqb (max x y) 1 ≡ (eqb x 1 || eqb y 1)) refl refl refl refl (s / 2 ^ i) (t / 2 ^ i))
 
 has-zero : (i : ℕ) → has 0 i ≡ false
 unfolding has
@@ -96,27 +96,32 @@ pub one-in : {k : ℕ} → k < 64 → Member k (2 ^ k)
 one-in {k} h = member h (one-has k)
 
 pub in-both : (s t : ℕ) {i : ℕ} → Member i (both s t) ↔ (Member i s × Member i t)
-in-both s t {i} =
-    ( λ h. let (a, b) = T-and (has s i) (has t i) .0 (rw has-both at (h .there)) in (member (h .small) a, member (h .small) b)
-    , λ h. member (h .0 .small) (rw has-both (T-and (has s i) (has t i) .1 (h .0 .there, h .1 .there))) )
+in-both s t {i} = (
+  λ h. let (a, b) = T-and (has s i) (has t i) .0 (rw has-both at (h .there)) in (member (h .small) a, member (h .small) b),
+  λ h. member (h .0 .small) (rw has-both (T-and (has s i) (has t i) .1 (h .0 .there, h .1 .there))),
+)
 
 pub in-either : (s t : ℕ) {i : ℕ} → Member i (either s t) ↔ (Member i s ⊎ Member i t)
-in-either s t {i} =
-    ( λ h. ⊎-elim (λ a. inl (member (h .small) a)) (λ b. inr (member (h .small) b)) (T-or (has s i) (has t i) .0 (rw has-either at (h .there)))
-    , λ h.
-        ⊎-elim (λ a. member (a .small) (rw has-either (T-or (has s i) (has t i) .1 (inl (a .there)))))
-          (λ b. member (b .small) (rw has-either (T-or (has s i) (has t i) .1 (inr (b .there))))) h )
+in-either s t {i} = (
+  λ h. ⊎-elim (λ a. inl (member (h .small) a)) (λ b. inr (member (h .small) b)) (T-or (has s i) (has t i) .0 (rw has-either at (h .there))),
+  λ h.
+      ⊎-elim (λ a. member (a .small) (rw has-either (T-or (has s i) (has t i) .1 (inl (a .there)))))
+      (λ b. member (b .small) (rw has-either (T-or (has s i) (has t i) .1 (inr (b .there))))) h,
+)
 
 -- ---- folds over the numbers below k
 
+-- what starts out false, and holds one number on exactly where it held or that number made it so, holds by some number below k
+below : (G H : ℕ → Type 0) → ¬ G 0 → ((k : ℕ) → G (suc k) ↔ (G k ⊎ H k)) → (k : ℕ) → G k ↔ ((i : ℕ) × (i < k) × H i)
+below G H empty step k = (find k, λ (i, l, h). le-ind G (step i .1 (inr h)) (λ m _ g. step m .1 (inl g)) k l)
+  where
+    find : (k : ℕ) → G k → (i : ℕ) × (i < k) × H i
+    find zero g = absurd (empty g)
+    find (suc k) g = ⊎-elim (λ a. let (i, l, h) = find k a in (i, omega arith, h)) (λ h. (k, omega arith, h)) (step k .0 g)
+
 some-below : (k : ℕ) (p : ℕ → Bool) → T (someBelow k p) ↔ ((i : ℕ) × (i < k) × T (p i))
 unfolding someBelow
-some-below k p = (find k, λ (i, l, h). le-ind (λ m. T (someBelow m p)) (T-or (someBelow i p) (p i) .1 (inr h)) (λ m _ g. T-or (someBelow m p) (p m) .1 (inl g)) k l)
-  where
-    find : (k : ℕ) → T (someBelow k p) → (i : ℕ) × (i < k) × T (p i)
-    find zero h = absurd h
-    find (suc k) h =
-        ⊎-elim (λ a. let (i, l, g) = find k a in (i, omega arith, g)) (λ b. (k, omega arith, b)) (T-or (someBelow k p) (p k) .0 h)
+some-below k p = below (λ k. T (someBelow k p)) (λ i. T (p i)) (λ h. h) (λ k. T-or (someBelow k p) (p k)) k
 
 -- a set, and where the test passes another
 in-cond : (s t : ℕ) (v : Bool) {i : ℕ} → Member i (cond v (either s t) s) ↔ (Member i s ⊎ (T v × Member i t))
@@ -124,36 +129,44 @@ in-cond s t true =
     (λ h. ⊎-elim inl (λ b. inr (tt, b)) (in-either s t .0 h), λ h. in-either s t .1 (⊎-elim inl (λ b. inr (b .1)) h))
 in-cond s t false = (inl, λ h. ⊎-elim (λ a. a) (λ b. absurd (b .0)) h)
 
-in-below : (k : ℕ) (p : ℕ → Bool) (f : ℕ → ℕ) {i : ℕ} → Member i (unionBelow k p f) ↔ ((j : ℕ) × (j < k) × T (p j) × Member i (f j))
+in-below : (k : ℕ) (p : ℕ → Bool) (f : ℕ → ℕ) {i : ℕ} → Member i (unionBelow k p f) ↔ ((j : ℕ) × (j < k) × (T (p j) × Member i (f j)))
 unfolding unionBelow
-in-below k p f {i} = (find k, λ (j, l, h, g). le-ind (λ m. Member i (unionBelow m p f)) (fold j .1 (inr (h, g))) (λ m _ r. fold m .1 (inl r)) k l)
-  where
-    fold : (k : ℕ) → Member i (unionBelow (suc k) p f) ↔ (Member i (unionBelow k p f) ⊎ (T (p k) × Member i (f k)))
-    fold k = in-cond (unionBelow k p f) (f k) (p k)
-
-    find : (k : ℕ) → Member i (unionBelow k p f) → (j : ℕ) × (j < k) × T (p j) × Member i (f j)
-    find zero h = absurd (in-none h)
-    find (suc k) h = ⊎-elim (λ a. let (j, l, g, m) = find k a in (j, omega arith, g, m)) (λ b. (k, omega arith, b .0, b .1)) (fold k .0 h)
+in-below k p f {i} =
+    below (λ k. Member i (unionBelow k p f)) (λ j. T (p j) × Member i (f j)) in-none (λ k. in-cond (unionBelow k p f) (f k) (p k)) k
 
 -- ---- tests and unions over the members of a set
 
 pub some-member : (s : ℕ) (p : ℕ → Bool) → T (someMember s p) ↔ ((i : ℕ) × Member i s × T (p i))
-some-member s p =
-    ( λ h. let (i, l, g) = some-below 64 test .0 h in let (a, b) = T-and (has s i) (p i) .0 g in (i, member l a, b)
-    , λ (i, m, g). some-below 64 test .1 (i, m .small, T-and (has s i) (p i) .1 (m .there, g)) )
+some-member s p = (
+  λ h. let (i, l, g) = some-below 64 test .0 h in let (a, b) = T-and (has s i) (p i) .0 g in (i, member l a, b),
+  λ (i, m, g). some-below 64 test .1 (i, m .small, T-and (has s i) (p i) .1 (m .there, g)),
+)
   where
     test : ℕ → Bool
     test i = has s i && p i
 
 pub in-members : (s : ℕ) (p : ℕ → Bool) {i : ℕ} → Member i (members s p) ↔ (Member i s × T (p i))
-in-members s p {i} =
-    ( λ h. let (j, l, g, m) = in-below 64 _ _ .0 h in let (a, b) = T-and (has s j) (p j) .0 g in rw (in-one m) (member l a, b)
-    , λ (m, g). in-below 64 _ _ .1 (i, m .small, T-and (has s i) (p i) .1 (m .there, g), one-in (m .small)) )
+in-members s p {i} = (
+  λ h. let (j, l, (g, m)) = in-below 64 _ _ .0 h in let (a, b) = T-and (has s j) (p j) .0 g in rw (in-one m) (member l a, b),
+  λ (m, g). in-below 64 _ _ .1 (i, m .small, (T-and (has s i) (p i) .1 (m .there, g), one-in (m .small))),
+)
 
 pub in-union : (s : ℕ) (f : ℕ → ℕ) {i : ℕ} → Member i (unionOf s f) ↔ ((j : ℕ) × Member j s × Member i (f j))
-in-union s f =
-    ( λ h. let (j, l, g, m) = in-below 64 (has s) f .0 h in (j, member l g, m)
-    , λ (j, m, g). in-below 64 (has s) f .1 (j, m .small, m .there, g) )
+in-union s f = (
+  λ h. let (j, l, (g, m)) = in-below 64 (has s) f .0 h in (j, member l g, m),
+  λ (j, m, g). in-below 64 (has s) f .1 (j, m .small, (m .there, g)),
+)
+
+-- the members of A that f takes, with some member of B, into E
+pub in-related : (A B E : ℕ) (f : ℕ → ℕ → ℕ) → ((x y : ℕ) → f x y < 64) → {x : ℕ}
+    → Member x (members A (λ x. someMember B (λ y. has E (f x y)))) ↔ (Member x A × (y : ℕ) × Member y B × Member (f x y) E)
+in-related A B E f small {x} = (
+  λ h.
+      let (a, g) = in-members A (λ x. someMember B (λ y. has E (f x y))) .0 h in
+      let (y, m, e) = some-member B (λ y. has E (f x y)) .0 g in
+      (a, y, m, member (small x y) e),
+  λ (a, y, m, e). in-members A (λ x. someMember B (λ y. has E (f x y))) .1 (a, some-member B (λ y. has E (f x y)) .1 (y, m, e .there)),
+)
 
 -- ---- a set made by tests is 8 bytes
 

@@ -2,12 +2,12 @@
 use mathlib.Core.Path.{refl}
 use Rattle.model.specs.Set.{has, someBelow, unionBelow}
 use Rattle.model.specs.Automaton.{next}
-use Rattle.model.specs.Passes.{reach, after, before, letters, rounds, first, fewest, forward, backward, pruned, final, kept, narrowed, finals, entries}
+use Rattle.model.specs.Passes.{reach, after, before, between, rounds, first, fewest, forward, backward, pruned, final, kept, entries, finals, narrowedList}
 use Rattle.model.specs.NormalForm.{dropped, join, joined, normal}
-use Rattle.model.specs.Verdict.{answer, single, every, someLegal, someIllegal, verdict}
+use Rattle.model.specs.Verdict.{narrowedMask, single, every, someLegal, someIllegal, verdict}
 use Rattle.model.specs.Trials.{AllHold, rows}
 
 pub trials : AllHold rows
-unfolding has someBelow unionBelow next reach after before letters rounds first fewest forward backward pruned final kept narrowed finals entries dropped join joined normal answer single every someLegal someIllegal verdict rows
+unfolding has someBelow unionBelow next reach after before between rounds first fewest forward backward pruned final kept entries finals narrowedList dropped join joined normal narrowedMask single every someLegal someIllegal verdict rows
 trials =
     ((refl, refl), ((refl, refl), ((refl, refl), ((refl, refl), ((refl, refl), (refl, (refl, ((refl, refl), (refl, ((refl, refl), tt))))))))))

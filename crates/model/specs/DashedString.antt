@@ -3,7 +3,7 @@
 use Prim.Native.Nat.{ℕ, _≤_}
 use mathlib.Core.Path.{_≡_}
 use mathlib.Core.List.{List, [], _∷_, flatten}
-use lib.ListN.{length}
+use lib.ListN.{length, getD}
 use Rattle.model.specs.declared.Block.{Block}
 use Rattle.model.specs.Set.{Member}
 
@@ -15,6 +15,10 @@ block S l u = record { base = S; lower = l; upper = u }
 abbrev pub Each : (Block → Type 0) → List Block → Type 0
 Each P [] = Unit {0}
 Each P (x ∷ xs) = P x × Each P xs
+
+-- block i of a mask, i from 0
+abbrev pub blockAt : List Block → ℕ → Block
+blockAt xs i = getD xs i (block 0 0 0)
 
 -- l ≤ u
 abbrev pub Bounded : Block → Type 0

@@ -8,7 +8,7 @@ use Rattle.model.specs.declared.Block.{Block}
 use Rattle.model.specs.declared.Verdict.{Verdict}
 use Rattle.model.specs.declared.Verdict.the-variants.{None, All}
 use Rattle.model.specs.Set.{Member}
-use Rattle.model.specs.DashedString.{block, Factorization, Matches}
+use Rattle.model.specs.DashedString.{blockAt, Factorization, Matches}
 use Rattle.model.specs.Automaton.{Dfa, Accepts}
 use Rattle.model.specs.Legal.{Legal}
 
@@ -31,5 +31,5 @@ pub record Demand3 (b : Dfa) (xs : List Block) (v : Verdict) (ys : List Block) (
   -- nothing new is spelled (for none there is no narrowed mask)
   pub adds : ¬ (v ≡ None) → (w : List ℕ) → Matches ys w → Matches xs w
   -- a letter stands in a mandatory place exactly when some legal code, in some cut, has it there
-  pub places : (i j c : ℕ) → i < length xs → j < getD xs i (block 0 0 0) .lower
+  pub places : (i j c : ℕ) → i < length xs → j < blockAt xs i .lower
       → Member c (set (suc i) (suc j)) ↔ Has b xs (Puts c (suc i) (suc j))

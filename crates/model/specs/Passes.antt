@@ -36,8 +36,8 @@ unfoldable pub before : Table → ℕ → ℕ → ℕ → ℕ
 before t S Q E = members Q (λ q. someMember S (λ c. has E (next t q c)))
 
 -- steps 4 and 5: the letters of S by which some move goes from a state of Q to a state of E
-unfoldable pub letters : Table → ℕ → ℕ → ℕ → ℕ
-letters t S Q E = members S (λ c. someMember Q (λ q. has E (next t q c)))
+unfoldable pub between : Table → ℕ → ℕ → ℕ → ℕ
+between t S Q E = members S (λ c. someMember Q (λ q. has E (next t q c)))
 
 -- Q, and k times what f adds to it
 unfoldable pub rounds : (ℕ → ℕ) → ℕ → ℕ → ℕ
@@ -73,11 +73,11 @@ backward t Q (optional S w) E = both Q (toEnd t S (atMost t S Q w) E w)
 
 -- what a segment becomes: step 5's block 1, 1 at a place, step 4's at the optional part (where E, and so b's level, lies in R)
 unfoldable pub pruned : Table → ℕ → Segment → ℕ → Block
-pruned t Q (mandatory S) E = block (letters t S Q E) 1 1
+pruned t Q (mandatory S) E = block (between t S Q E) 1 1
 pruned t Q (optional S zero) E = block 0 0 0
 pruned t Q (optional S (suc v)) E =
     let R = atMost t S Q (suc v) in
-    block (letters t S R (toEnd t S R E v)) (fewest t S R E Q (suc v)) (suc v)
+    block (between t S R (toEnd t S R E v)) (fewest t S R E Q (suc v)) (suc v)
 
 -- the states possible behind the last segment, from those before the first
 unfoldable pub final : Table → ℕ → List Segment → ℕ
@@ -90,14 +90,14 @@ kept b Q [] = both Q (b .accepting)
 kept b Q (s ∷ ss) = backward (b .table) Q s (kept b (forward (b .table) Q s) ss)
 
 -- what each segment becomes, in order, from the states Q before the first
-unfoldable pub narrowed : Dfa → ℕ → List Segment → List Block
-narrowed b Q [] = []
-narrowed b Q (s ∷ ss) = let P = forward (b .table) Q s in pruned (b .table) Q s (kept b P ss) ∷ narrowed b P ss
+unfoldable pub entries : Dfa → ℕ → List Segment → List Block
+entries b Q [] = []
+entries b Q (s ∷ ss) = let P = forward (b .table) Q s in pruned (b .table) Q s (kept b P ss) ∷ entries b P ss
 
 -- step 2: the states possible behind the last block; the first block's Q0 is the start alone
 unfoldable pub finals : Dfa → List Block → ℕ
 finals b xs = final (b .table) (2 ^ b .start) (segments xs)
 
 -- the narrowed list: block by block, the places in order and then the optional part
-unfoldable pub entries : Dfa → List Block → List Block
-entries b xs = narrowed b (2 ^ b .start) (segments xs)
+unfoldable pub narrowedList : Dfa → List Block → List Block
+narrowedList b xs = entries b (2 ^ b .start) (segments xs)

@@ -1,7 +1,7 @@
 -- Sets of letters and of states. A set of numbers below 64 is the number that a record holds for it: bit i says whether
 -- i is in it (01, "Records").
 use Prim.Native.Nat.{ℕ, zero, suc, _/_, _%_, _^_, _<_}
-use mathlib.Core.Bool.{Bool, true, false, cond, _&&_, _||_}
+use mathlib.Core.Bool.{Bool, false, cond, _&&_, _||_}
 use lib.Bits.{bitAnd, bitOr}
 use lib.Dec.{T, eqb}
 

@@ -12,14 +12,14 @@ uppers [] = 0
 uppers (x ∷ xs) = x .upper + uppers xs
 
 -- l ≤ u, and the set is 8 bytes whose letters are all below m
-pub record Sound (m : ℕ) (x : Block) : Type 0 where
+pub record WellFormed (m : ℕ) (x : Block) : Type 0 where
   pub bounds : Bounded x
   pub bytes : x .base < 2 ^ 64
   pub letters : (c : ℕ) → Member c (x .base) → c < m
 
--- blocks that are sound (checks 7 and 9), with uppers that sum to at most 1,024 (check 8)
+-- well-formed blocks (checks 7 and 9), with uppers that sum to at most 1,024 (check 8)
 pub record Room (m : ℕ) (xs : List Block) : Type 0 where
-  pub each : Each (Sound m) xs
+  pub each : Each (WellFormed m) xs
   pub sum : uppers xs ≤ 1024
 
 -- at most 1,024 blocks (check 4), with room

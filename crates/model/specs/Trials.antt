@@ -7,7 +7,7 @@ use Rattle.model.specs.declared.Verdict.{Verdict}
 use Rattle.model.specs.declared.Verdict.the-variants.{None, All, One, Some}
 use Rattle.model.specs.DashedString.{block}
 use Rattle.model.specs.Automaton.{Dfa}
-use Rattle.model.specs.Verdict.{answer, verdict}
+use Rattle.model.specs.Verdict.{narrowedMask, verdict}
 
 -- a book of n states, m letters, a start, accepting states and moves, as its record lists them; 255 is no move
 abbrev pub book : ℕ → ℕ → ℕ → ℕ → List ℕ → Dfa
@@ -33,7 +33,7 @@ pub data Row : Type 0 where
 
 -- the definitions give what the row says
 abbrev pub Holds : Row → Type 0
-Holds (gives b xs v ys) = (verdict b xs ≡ v) × (answer b xs ≡ ys)
+Holds (gives b xs v ys) = (verdict b xs ≡ v) × (narrowedMask b xs ≡ ys)
 Holds (none b xs) = verdict b xs ≡ None
 
 -- each row holds

@@ -8,7 +8,7 @@ use Rattle.model.specs.declared.Verdict.{Verdict}
 use Rattle.model.specs.declared.Verdict.the-variants.{None, All, One, Some}
 use Rattle.model.specs.Set.{has, someBelow, someMember}
 use Rattle.model.specs.Automaton.{Dfa}
-use Rattle.model.specs.Passes.{finals, entries}
+use Rattle.model.specs.Passes.{finals, narrowedList}
 use Rattle.model.specs.NormalForm.{normal}
 
 -- the verdicts' numbers at the host (01, "Records")
@@ -19,8 +19,8 @@ number One = 3
 number Some = 4
 
 -- the narrowed mask: the normal form of the narrowed list
-unfoldable pub answer : Dfa → List Block → List Block
-answer b xs = normal (entries b xs)
+unfoldable pub narrowedMask : Dfa → List Block → List Block
+narrowedMask b xs = normal (narrowedList b xs)
 
 -- one letter, and l = u
 unfoldable pub single : Block → Bool
@@ -48,4 +48,4 @@ someIllegal b xs = someMember (finals b xs) (λ q. not (has (b .accepting) q))
 
 -- the verdict
 unfoldable pub verdict : Dfa → List Block → Verdict
-verdict b xs = say (someLegal b xs) (someIllegal b xs) (every single (answer b xs))
+verdict b xs = say (someLegal b xs) (someIllegal b xs) (every single (narrowedMask b xs))

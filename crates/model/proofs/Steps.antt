@@ -1,0 +1,173 @@
+-- The steps of the passes by letters and words: one letter (after, before, between), at most so many letters (R, and b by
+-- its levels), and the first number that passes a test.
+-- Assumes nothing.
+use mathlib.Core.Path.{_≡_, refl, sym}
+use mathlib.Core.Logic.{_↔_, _⊎_, ⊎-elim, inl, inr}
+use mathlib.Core.Bool.{Bool, true, false, cond, _&&_}
+use mathlib.Core.List.{List, [], _∷_, _++_}
+use Prim.Native.Nat.{ℕ, zero, suc, _+_, _*_, _^_, _≤_, _<_, zero-le}
+use native.Mathlib.Nat.{eq-or-lt-of-le}
+use native.Mathlib.Decide.{le-ind}
+use native.Mathlib.Omega.{arith}
+use lib.Dec.{T, ltb, ltb→lt}
+use lib.ListN.{length, getD, length-append}
+use Rattle.model.specs.Set.{has, Member, someMember}
+use Rattle.model.specs.DashedString.{Within, nil, cons}
+use Rattle.model.specs.Automaton.{Table, next, run}
+use Rattle.model.specs.Passes.{reach, after, before, between, rounds, atMost, toEnd, first}
+use Rattle.model.proofs.Set.{T-and, in-one, one-in, in-either, in-members, in-union, in-related, members-bytes}
+use Rattle.model.proofs.Words.{within-append, run-append}
+
+-- ---- the first that passes
+
+-- it is at most the end
+pub first-end : (k i : ℕ) (p : ℕ → Bool) → first k i p ≤ i + k
+unfolding first
+first-end zero i p = omega arith
+first-end (suc k) i p = go (p i) (first-end k (suc i) p)
+  where
+    go : (v : Bool) → first k (suc i) p ≤ suc i + k → elim v [ true ↦ i | false ↦ first k (suc i) p ] ≤ i + suc k
+    go true h = omega arith
+    go false h = omega arith
+
+-- and at most each one from i on that passes
+pub first-least : (k i d : ℕ) (p : ℕ → Bool) → i ≤ d → T (p d) → first k i p ≤ d
+unfolding first
+first-least zero i d p l h = l
+first-least (suc k) i d p l h = go (p i) refl (λ g. first-least k (suc i) d p g h)
+  where
+    go : (v : Bool) → p i ≡ v → (suc i ≤ d → first k (suc i) p ≤ d) → elim v [ true ↦ i | false ↦ first k (suc i) p ] ≤ d
+    go true e f = l
+    go false e f = f (⊎-elim (λ q. absurd (rw (← q, e) at h)) (λ g. g) (eq-or-lt-of-le l))
+
+-- ---- rounds
+
+in-rounds : (f : ℕ → ℕ) (Q k : ℕ) {i : ℕ} → Member i (rounds f Q (suc k)) ↔ (Member i (rounds f Q k) ⊎ Member i (f (rounds f Q k)))
+unfolding rounds
+in-rounds f Q k = in-either (rounds f Q k) (f (rounds f Q k))
+
+-- more rounds lose nothing
+pub rounds-mono : (f : ℕ → ℕ) (Q j k : ℕ) {i : ℕ} → j ≤ k → Member i (rounds f Q j) → Member i (rounds f Q k)
+rounds-mono f Q j k {i} l h = le-ind (λ m. Member i (rounds f Q m)) h (λ m _ g. in-rounds f Q m .1 (inl g)) k l
+
+-- ---- the letters that stay are letters of S, and a set of 8 bytes
+
+pub between-within : (t : Table) (S Q E : ℕ) {c : ℕ} → Member c (between t S Q E) → Member c S
+unfolding between
+between-within t S Q E h = in-members S (λ c. someMember Q (λ q. has E (next t q c))) .0 h .0
+
+pub between-bytes : (t : Table) (S Q E : ℕ) → between t S Q E < 2 ^ 64
+unfolding between
+between-bytes t S Q E = members-bytes S (λ c. someMember Q (λ q. has E (next t q c)))
+
+-- ---- words
+
+-- on the way of the word from q each state but the last is in R
+abbrev pub Stays : Table → ℕ → ℕ → List ℕ → Type 0
+Stays t R q [] = Unit {0}
+Stays t R q (c ∷ p) = Member q R × Stays t R (next t q c) p
+
+-- r is reached from a state of Q by a word of at most k letters of S
+abbrev pub Reached : Table → ℕ → ℕ → ℕ → ℕ → Type 0
+Reached t S Q k r = (q : ℕ) × Member q Q × (p : List ℕ) × Within S p × (length p ≤ k) × (run t q p ≡ r)
+
+-- b(q) ≤ d: a word of at most d letters of S leads from q to E, passing only states of R
+abbrev pub Leads : Table → ℕ → ℕ → ℕ → ℕ → ℕ → Type 0
+Leads t S R E d q = (p : List ℕ) × Within S p × (length p ≤ d) × Stays t R q p × Member (run t q p) E
+
+module _ (t : Table) (fits : t .states < 64) where
+  -- a move leads to a state or to the dead state, and these have numbers below 64
+  next-small : (q c : ℕ) → next t q c < 64
+  unfolding next
+  next-small q c =
+      let r = getD (t .moves) (q * t .letters + c) 0 in
+      let named = ltb q (t .states) && ltb c (t .letters) in
+      pick (named && ltb r (t .states)) r (λ h. omega (arith, ltb→lt r (t .states) (T-and named (ltb r (t .states)) .0 h .1)))
+    where
+      pick : (v : Bool) (r : ℕ) → (T v → r < 64) → cond v r (t .states) < 64
+      pick true r h = h tt
+      pick false r h = fits
+
+  pub in-after : (S Q : ℕ) {r : ℕ} → Member r (after t S Q) ↔ ((q : ℕ) × Member q Q × (c : ℕ) × Member c S × (next t q c ≡ r))
+  unfolding after reach
+  in-after S Q = (
+    λ h.
+        let (q, m, g) = in-union Q (reach t S) .0 h in
+        let (c, n, e) = in-union S (λ c. 2 ^ next t q c) .0 g in
+        (q, m, c, n, sym (in-one e)),
+    λ (q, m, c, n, e).
+        in-union Q (reach t S) .1 (q, m, in-union S (λ c. 2 ^ next t q c) .1 (c, n, rw (← e) (one-in (next-small q c)))),
+  )
+
+  pub in-before : (S Q E : ℕ) {q : ℕ} → Member q (before t S Q E) ↔ (Member q Q × (c : ℕ) × Member c S × Member (next t q c) E)
+  unfolding before
+  in-before S Q E = in-related Q S E (λ q c. next t q c) next-small
+
+  pub in-between : (S Q E : ℕ) {c : ℕ} → Member c (between t S Q E) ↔ (Member c S × (q : ℕ) × Member q Q × Member (next t q c) E)
+  unfolding between
+  in-between S Q E = in-related S Q E (λ c q. next t q c) (λ c q. next-small q c)
+
+  -- ---- R: at most k letters
+
+  -- a letter leads from a state of the j-th round to one of the next
+  pub round : (S Q j : ℕ) {q c : ℕ} → Member q (atMost t S Q j) → Member c S → Member (next t q c) (atMost t S Q (suc j))
+  round S Q j {q} {c} m n = in-rounds (after t S) Q j .1 (inr (in-after S (atMost t S Q j) .1 (q, m, c, n, refl)))
+
+  -- and so does a word, over as many rounds as it has letters
+  reaches : (S Q j k : ℕ) {q : ℕ} {p : List ℕ} → Member q (atMost t S Q j) → Within S p → j + length p ≤ k → Member (run t q p) (atMost t S Q k)
+  reaches S Q j k m nil l = rounds-mono (after t S) Q j k (omega arith) m
+  reaches S Q j k m (cons n h) l = reaches S Q (suc j) k (round S Q j m n) h (omega arith)
+
+  reached : (S Q k : ℕ) {r : ℕ} → Member r (atMost t S Q k) → Reached t S Q k r
+  unfolding rounds
+  reached S Q zero {r} h = (r, h, [], nil, zero-le, refl)
+  reached S Q (suc k) {r} h = go (λ q m. reached S Q k {r = q} m) (in-rounds (after t S) Q k .0 h)
+    where
+      go : ((q : ℕ) → Member q (atMost t S Q k) → Reached t S Q k q)
+          → Member r (atMost t S Q k) ⊎ Member r (after t S (atMost t S Q k)) → Reached t S Q (suc k) r
+      go before (inl a) = let (q, m, p, w, l, e) = before r a in (q, m, p, w, omega arith, e)
+      go before (inr a) =
+          let (s, m', c, n, d) = in-after S (atMost t S Q k) .0 a in
+          let (q, m, p, w, l, e) = before s m' in
+          (q, m, p ++ c ∷ [], within-append w (cons n nil), simp length-append (omega arith), rw (run-append t q p (c ∷ []), e) d)
+
+  -- the states of R are those reached by at most k letters
+  pub in-atMost : (S Q k : ℕ) {r : ℕ} → Member r (atMost t S Q k) ↔ Reached t S Q k r
+  unfolding rounds
+  in-atMost S Q k = (reached S Q k, λ (q, m, p, h, l, e). rw e at (reaches S Q 0 k m h (omega arith)))
+
+  -- a word from a state of the j-th round stays in R
+  stays : (S Q w j : ℕ) {q : ℕ} {p : List ℕ} → Member q (atMost t S Q j) → Within S p → j + length p ≤ w → Stays t (atMost t S Q w) q p
+  stays S Q w j m nil l = tt
+  stays S Q w j m (cons n h) l = (rounds-mono (after t S) Q j w (omega arith) m, stays S Q w (suc j) (round S Q j m n) h (omega arith))
+
+  -- ---- b by its levels: at most d letters
+
+  leads-in : (S R E d : ℕ) {q : ℕ} → Member q (toEnd t S R E d) → Leads t S R E d q
+  unfolding rounds
+  leads-in S R E zero h = ([], nil, zero-le, tt, h)
+  leads-in S R E (suc d) {q} h = go (λ r m. leads-in S R E d {q = r} m) (in-rounds (before t S R) E d .0 h)
+    where
+      go : ((r : ℕ) → Member r (toEnd t S R E d) → Leads t S R E d r)
+          → Member q (toEnd t S R E d) ⊎ Member q (before t S R (toEnd t S R E d)) → Leads t S R E (suc d) q
+      go below (inl a) = let (p, w, l, s, e) = below q a in (p, w, omega arith, s, e)
+      go below (inr a) =
+          let (m, c, n, k) = in-before S R (toEnd t S R E d) .0 a in
+          let (p, w, l, s, e) = below (next t q c) k in
+          (c ∷ p, cons n w, omega arith, (m, s), e)
+
+  leads-out : (S R E d : ℕ) {q : ℕ} {p : List ℕ} → Within S p → length p ≤ d → Stays t R q p → Member (run t q p) E → Member q (toEnd t S R E d)
+  unfolding rounds
+  leads-out S R E d nil l s e = rounds-mono (before t S R) E 0 d zero-le e
+  leads-out S R E zero (cons n h) l s e = absurd (omega arith)
+  leads-out S R E (suc d) (cons {c} n h) l (m, s) e =
+      in-rounds (before t S R) E d .1 (inr (in-before S R (toEnd t S R E d) .1 (m, c, n, leads-out S R E d h (omega arith) s e)))
+
+  -- level d of b has the states q with b(q) ≤ d
+  pub in-toEnd : (S R E d : ℕ) {q : ℕ} → Member q (toEnd t S R E d) ↔ Leads t S R E d q
+  in-toEnd S R E d = (leads-in S R E d, λ (p, h, l, s, e). leads-out S R E d h l s e)
+
+  -- where R is what Q reaches by at most w letters, a word from the j-th round to E bounds b
+  pub led : (S Q E w j d : ℕ) {q : ℕ} {p : List ℕ} → Member q (atMost t S Q j) → Within S p → Member (run t q p) E
+      → j + length p ≤ w → length p ≤ d → Member q (toEnd t S (atMost t S Q w) E d)
+  led S Q E w j d {p = p} m h e l f = in-toEnd S (atMost t S Q w) E d .1 (p, h, f, stays S Q w j m h l, e)
