@@ -1,3 +1,5 @@
+-- The trial rows are checked first: where a definition is wrong, the first error is a row that does not hold.
+pub mod AllTrials
 pub mod Set
 pub mod Automaton
 pub mod Words
@@ -9,4 +11,3 @@ pub mod Entry
 pub mod NormalForm
 pub mod Room
 pub mod Demand3
-pub mod Trials

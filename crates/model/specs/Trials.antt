@@ -1,4 +1,4 @@
--- Document 01's "Trials at the stake": the rows to be proved, and under "Faults we would expect" the one of the normal form.
+-- Document 01's "Trials at the stake": the rows to be proved, and a few facts beside them.
 use Prim.Native.Nat.{ℕ}
 use mathlib.Core.Path.{_≡_}
 use mathlib.Core.List.{List, [], _∷_}
@@ -7,7 +7,9 @@ use Rattle.model.specs.declared.Verdict.{Verdict}
 use Rattle.model.specs.declared.Verdict.the-variants.{None, All, One, Some}
 use Rattle.model.specs.DashedString.{block}
 use Rattle.model.specs.Automaton.{Dfa}
+use Rattle.model.specs.NormalForm.{normal}
 use Rattle.model.specs.Verdict.{narrowedMask, verdict}
+use Rattle.model.specs.Place.{place}
 
 -- a book of n states, m letters, a start, accepting states and moves, as its record lists them; 255 is no move
 abbrev pub book : ℕ → ℕ → ℕ → ℕ → List ℕ → Dfa
@@ -26,15 +28,20 @@ B = book 3 3 0 0b100 (1 ∷ 1 ∷ 255 ∷ 255 ∷ 255 ∷ 2 ∷ 255 ∷ 255 ∷ 
 abbrev pub C : Dfa
 C = book 1 2 0 0b1 (0 ∷ 0 ∷ [])
 
--- a row of the table: book and mask, with verdict and narrowed mask, or none
+-- book and mask, with verdict and narrowed mask, or none; a mask and its normal form; book, mask, block number and place,
+-- with the entry that place returns
 pub data Row : Type 0 where
   gives : Dfa → List Block → Verdict → List Block → Row
   none : Dfa → List Block → Row
+  tidies : List Block → List Block → Row
+  shows : Dfa → List Block → ℕ → ℕ → Block → Row
 
 -- the definitions give what the row says
 abbrev pub Holds : Row → Type 0
 Holds (gives b xs v ys) = (verdict b xs ≡ v) × (narrowedMask b xs ≡ ys)
 Holds (none b xs) = verdict b xs ≡ None
+Holds (tidies xs ys) = normal xs ≡ ys
+Holds (shows b xs i j x) = place b xs i j ≡ x
 
 -- each row holds
 abbrev pub AllHold : List Row → Type 0
@@ -54,4 +61,13 @@ rows =
     ∷ gives C [] All []
     ∷ none C (block 0b00 1 1 ∷ [])
     ∷ gives C (block 0b01 1 2 ∷ block 0b01 0 3 ∷ []) All (block 0b01 1 5 ∷ [])
+    ∷ []
+
+-- beside them: joining comes after dropping ("Faults we would expect"); a place of a second block, its optional part, and none
+unfoldable pub others : List Row
+others =
+    tidies (block 0b01 0 1 ∷ block 0b10 0 0 ∷ block 0b01 0 1 ∷ []) (block 0b01 0 2 ∷ [])
+    ∷ shows B (block 0b010 1 1 ∷ block 0b101 1 1 ∷ []) 2 1 (block 0b100 1 1)
+    ∷ shows C (block 0b01 1 2 ∷ block 0b01 0 3 ∷ []) 2 0 (block 0b01 0 3)
+    ∷ shows B (block 0b100 1 3 ∷ []) 1 1 (block 0 0 0)
     ∷ []

@@ -1,13 +1,21 @@
--- Every row of 01's table holds of the definitions, by computing both sides.
+-- Every row holds of the definitions, by computing both sides.
+-- Assumes nothing.
 use mathlib.Core.Path.{refl}
 use Rattle.model.specs.Set.{has, someBelow, unionBelow}
 use Rattle.model.specs.Automaton.{next}
 use Rattle.model.specs.Passes.{reach, after, before, between, rounds, first, fewest, forward, backward, pruned, final, kept, entries, finals, narrowedList}
 use Rattle.model.specs.NormalForm.{dropped, join, joined, normal}
 use Rattle.model.specs.Verdict.{narrowedMask, single, every, someLegal, someIllegal, verdict}
-use Rattle.model.specs.Trials.{AllHold, rows}
+use Rattle.model.specs.Place.{place}
+use Rattle.model.specs.Trials.{AllHold, rows, others}
 
+-- 01's ten rows
 pub trials : AllHold rows
 unfolding has someBelow unionBelow next reach after before between rounds first fewest forward backward pruned final kept entries finals narrowedList dropped join joined normal narrowedMask single every someLegal someIllegal verdict rows
 trials =
     ((refl, refl), ((refl, refl), ((refl, refl), ((refl, refl), ((refl, refl), (refl, (refl, ((refl, refl), (refl, ((refl, refl), tt))))))))))
+
+-- and the facts beside them
+pub other-trials : AllHold others
+unfolding has someBelow unionBelow next reach after before between rounds first fewest forward backward pruned final kept entries finals narrowedList dropped join joined normal narrowedMask single every someLegal someIllegal verdict place others
+other-trials = (refl, (refl, (refl, (refl, tt))))
