@@ -1,6 +1,7 @@
 -- Every row holds of the definitions, by computing both sides.
 -- Assumes nothing.
 use mathlib.Core.Path.{refl}
+use mathlib.Core.List.{_++_}
 use Rattle.model.specs.Set.{has, someBelow, unionBelow}
 use Rattle.model.specs.Automaton.{next}
 use Rattle.model.specs.Passes.{reach, after, before, between, rounds, first, fewest, forward, backward, pruned, final, kept, entries, finals, narrowedList}
@@ -9,13 +10,8 @@ use Rattle.model.specs.Verdict.{narrowedMask, single, every, someLegal, 
 use Rattle.model.specs.Place.{place}
 use Rattle.model.specs.Trials.{AllHold, rows, others}
 
--- 01's ten rows
-pub trials : AllHold rows
-unfolding has someBelow unionBelow next reach after before between rounds first fewest forward backward pruned final kept entries finals narrowedList dropped join joined normal narrowedMask single every someLegal someIllegal verdict rows
+-- 01's ten rows, and the facts beside them
+pub trials : AllHold (rows ++ others)
+unfolding has someBelow unionBelow next reach after before between rounds first fewest forward backward pruned final kept entries finals narrowedList dropped join joined normal narrowedMask single every someLegal someIllegal verdict place rows others
 trials =
-    ((refl, refl), ((refl, refl), ((refl, refl), ((refl, refl), ((refl, refl), (refl, (refl, ((refl, refl), (refl, ((refl, refl), tt))))))))))
-
--- and the facts beside them
-pub other-trials : AllHold others
-unfolding has someBelow unionBelow next reach after before between rounds first fewest forward backward pruned final kept entries finals narrowedList dropped join joined normal narrowedMask single every someLegal someIllegal verdict place others
-other-trials = (refl, (refl, (refl, (refl, tt))))
+    ((refl, refl), ((refl, refl), ((refl, refl), ((refl, refl), ((refl, refl), (refl, (refl, ((refl, refl), (refl, ((refl, refl), (refl, (refl, (refl, (refl, tt))))))))))))))

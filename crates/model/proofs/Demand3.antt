@@ -1,7 +1,7 @@
 -- Demand 3 holds of the definitions: for every book and mask that pass the checks, one theorem.
 -- Assumes nothing.
-use mathlib.Core.Path.{_≡_, refl, ap}
-use mathlib.Core.Logic.{_↔_}
+use mathlib.Core.Path.{_≡_, refl, ap, sym}
+use mathlib.Core.Logic.{_↔_, _⊎_, inl, inr, ⊎-elim}
 use mathlib.Core.Bool.{Bool, true, false, not}
 use mathlib.Core.List.{List, [], flatten}
 use Prim.Native.Nat.{ℕ, suc, _+_, _-_, _^_, _<_}
@@ -16,14 +16,16 @@ use Rattle.model.specs.DashedString.{block, blockAt, Matches}
 use Rattle.model.specs.Automaton.{Dfa, run, Accepts}
 use Rattle.model.specs.Legal.{Legal, Checked}
 use Rattle.model.specs.Passes.{segments, finals, narrowedList}
+use Rattle.model.specs.NormalForm.{normal}
 use Rattle.model.specs.Verdict.{number, narrowedMask, single, every, say, someLegal, someIllegal, verdict}
-use Rattle.model.specs.Place.{begins, unlessNone, place}
-use Rattle.model.specs.Demand3.{Has, Puts, Demand3}
+use Rattle.model.specs.Place.{begins, entryOf, unlessNone, place}
+use Rattle.model.specs.Demand3.{Has, Puts, listed, Demand3}
 use Rattle.model.proofs.Set.{member, in-none, in-one, some-member}
 use Rattle.model.proofs.Segment.{pruned-exact}
-use Rattle.model.proofs.Segments.{final-in, final-out, entries-keep, all-narrow, narrow-adds}
+use Rattle.model.proofs.Segments.{final-in, final-out, entries-keep, all-narrow, narrow-length, narrow-adds}
 use Rattle.model.proofs.Cut.{segments-spell}
 use Rattle.model.proofs.Entry.{along-letter, place-segment, start-in, seen-at}
+use Rattle.model.proofs.Listed.{listed-whole}
 use Rattle.model.proofs.NormalForm.{normal-spells}
 use Rattle.model.proofs.Room.{narrow-bounded}
 
@@ -39,6 +41,12 @@ say-all false i s = (λ e. absurd (omega (arith, ap number e)), λ h. absurd (h 
 say-all true false s = (λ _. (tt, λ h. h), λ _. refl)
 say-all true true true = (λ e. absurd (omega (arith, ap number e)), λ h. absurd (h .1 tt))
 say-all true true false = (λ e. absurd (omega (arith, ap number e)), λ h. absurd (h .1 tt))
+
+none-or-not : (v : Verdict) → (v ≡ None) ⊎ (¬ (v ≡ None))
+none-or-not None = inl refl
+none-or-not All = inr (λ e. omega (arith, ap number e))
+none-or-not One = inr (λ e. omega (arith, ap number e))
+none-or-not Some = inr (λ e. omega (arith, ap number e))
 
 -- what is not refuted by a test holds of it
 stable : (v : Bool) → ¬ (¬ T v) → T v
@@ -132,7 +140,7 @@ module _ (b : Dfa) (xs : List Block) (ok : Checked b xs) where
 
   -- the entry of a place has exactly the letters that the legal codes have there
   entry-exact : (i j c : ℕ) → i < length xs → j < blockAt xs i .lower
-      → Member c (getD (narrowedList b xs) (begins xs i + j) (block 0 0 0) .base) ↔ Has b xs (λ ps. getD (getD ps i []) j 64 ≡ c)
+      → Member c (getD (narrowedList b xs) (begins xs i + j) (block 0 0 0) .base) ↔ Has b xs (Puts c i j)
   entry-exact i j c h l =
       let x = blockAt xs i in
       let s = seen-at b xs ok i j h (omega arith) in
@@ -146,24 +154,38 @@ module _ (b : Dfa) (xs : List Block) (ok : Checked b xs) where
             (exact .1 (rw (place-segment x j l) at (s .ways P .1 (ps, f, a, rw (along-letter (x .lower) j (getD ps i []) l) e)))),
       )
 
-  -- and so has the set that place returns; for none it is empty, and no code is legal
-  places : (i j c : ℕ) → i < length xs → j < blockAt xs i .lower
-      → Member c (place b xs (suc i) (suc j) .base) ↔ Has b xs (Puts c (suc i) (suc j))
+  -- what place returns: where the verdict is not none the entry, and for none the empty block
+  shown : ¬ (verdict b xs ≡ None) → (i j : ℕ) → place b xs (suc i) j ≡ getD (narrowedList b xs) (entryOf xs i j) (block 0 0 0)
   unfolding place
-  places i j c h l = rw (down i, down j) (go (verdict b xs) refl)
+  shown h i j = rw down (unless (verdict b xs) h)
     where
-      down : (n : ℕ) → suc n - 1 ≡ n
-      down n = omega arith
+      down : suc i - 1 ≡ i
+      down = omega arith
 
-      go : (v : Verdict) → verdict b xs ≡ v
-          → Member c (unlessNone v (getD (narrowedList b xs) (begins xs i + j) (block 0 0 0)) .base) ↔ Has b xs (λ ps. getD (getD ps i []) j 64 ≡ c)
-      go None e = (λ m. absurd (in-none m), λ (ps, f, a, _). absurd (none-exact .0 e (flatten ps) ((ps, f, refl), a)))
-      go All e = entry-exact i j c h l
-      go One e = entry-exact i j c h l
-      go Some e = entry-exact i j c h l
+      unless : (v : Verdict) → ¬ (v ≡ None) → {x : Block} → unlessNone v x ≡ x
+      unless None h = absurd (h refl)
+      unless All h = refl
+      unless One h = refl
+      unless Some h = refl
+
+  hidden : verdict b xs ≡ None → (i j : ℕ) → place b xs i j ≡ block 0 0 0
+  unfolding place
+  hidden e i j = rw e
+
+  -- the set that place returns has those letters; for none it is empty, and no code is legal
+  places : (i j c : ℕ) → i < length xs → j < blockAt xs i .lower → Member c (place b xs (suc i) (suc j) .base) ↔ Has b xs (Puts c i j)
+  places i j c h l = ⊎-elim empty (λ n. rw (shown n) (entry-exact i j c h l)) (none-or-not (verdict b xs))
+    where
+      empty : verdict b xs ≡ None → Member c (place b xs (suc i) (suc j) .base) ↔ Has b xs (Puts c i j)
+      empty e = (λ m. absurd (in-none (rw (hidden e) at m)), λ (ps, f, a, _). absurd (none-exact .0 e (flatten ps) ((ps, f, refl), a)))
+
+  -- the narrowed mask is the normal form of the list that place shows
+  mask : ¬ (verdict b xs ≡ None) → narrowedMask b xs ≡ normal (listed (place b xs) xs)
+  unfolding narrowedMask narrowedList
+  mask h = ap normal (sym (listed-whole (place b xs) xs (narrowedList b xs) (narrow-length (all-narrow b (2 ^ b .start) (segments xs))) (shown h)))
 
 -- for every book and mask that pass the checks: the verdict, the narrowed mask and the sets that place returns are as demand 3 says
-pub demand-3 : (b : Dfa) (xs : List Block) → Checked b xs → Demand3 b xs (verdict b xs) (narrowedMask b xs) (λ i j. place b xs i j .base)
+pub demand-3 : (b : Dfa) (xs : List Block) → Checked b xs → Demand3 b xs (verdict b xs) (narrowedMask b xs) (place b xs)
 demand-3 b xs ok =
     record {
       none = none-exact b xs ok;
@@ -171,4 +193,5 @@ demand-3 b xs ok =
       keeps = keeps b xs ok;
       adds = λ _. adds b xs ok;
       places = places b xs ok;
+      mask = mask b xs ok;
     }

@@ -8,6 +8,7 @@ pub mod Segment
 pub mod Segments
 pub mod Cut
 pub mod Entry
+pub mod Listed
 pub mod NormalForm
 pub mod Room
 pub mod Demand3

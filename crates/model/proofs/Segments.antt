@@ -1,7 +1,7 @@
 -- All segments: each pass by the pieces along the row, by inductions that use only the laws of one segment; and `seen`,
 -- from which every claim about one entry follows.
 -- Assumes nothing.
-use mathlib.Core.Path.{_≡_, refl}
+use mathlib.Core.Path.{_≡_, refl, ap}
 use mathlib.Core.Logic.{_↔_}
 use mathlib.Core.List.{List, [], _∷_, map, flatten}
 use Prim.Native.Nat.{ℕ, zero, suc, _<_}
@@ -30,6 +30,10 @@ pub all-narrow : (b : Dfa) (Q : ℕ) (ss : List Segment) → AllNarrow ss (entri
 unfolding entries
 all-narrow b Q [] = none
 all-narrow b Q (s ∷ ss) = let P = forward (b .table) Q s in more (pruned-narrows (b .table) Q s (kept b P ss)) (all-narrow b P ss)
+
+pub narrow-length : {ss : List Segment} {ys : List Block} → AllNarrow ss ys → length ys ≡ length ss
+narrow-length none = refl
+narrow-length (more n r) = ap suc (narrow-length r)
 
 -- so nothing new is spelled
 pub narrow-adds : {ss : List Segment} {ys : List Block} {ps : List (List ℕ)} → AllNarrow ss ys → Factorization ys ps → Parts ss ps

@@ -1,5 +1,6 @@
 -- The passes (01, "The passes", steps 1 to 5). 01 goes block by block and, in a block, over its places 1 to l and then
--- its optional part. Here these stand in one row of segments, and each pass is one recursion over the row.
+-- its optional part. Here these stand in one row of segments, and each pass is one recursion over the row. Q is the set
+-- of states possible before a segment, E the set of states kept behind it.
 use Prim.Native.Nat.{ℕ, zero, suc, _-_, _^_}
 use mathlib.Core.Bool.{Bool, true, false}
 use mathlib.Core.List.{List, [], _∷_, _++_}
@@ -31,7 +32,7 @@ reach t S q = unionOf S (λ c. 2 ^ next t q c)
 unfoldable pub after : Table → ℕ → ℕ → ℕ
 after t S Q = unionOf Q (reach t S)
 
--- step 5: the states of Q from which some move by a letter of S goes to E
+-- steps 3 and 5: the states of Q from which some move by a letter of S goes to a state of E
 unfoldable pub before : Table → ℕ → ℕ → ℕ → ℕ
 before t S Q E = members Q (λ q. someMember S (λ c. has E (next t q c)))
 
@@ -39,7 +40,7 @@ before t S Q E = members Q (λ q. someMember S (λ c. has E (next t q c)))
 unfoldable pub between : Table → ℕ → ℕ → ℕ → ℕ
 between t S Q E = members S (λ c. someMember Q (λ q. has E (next t q c)))
 
--- Q, and k times what f adds to it
+-- Q, and k times over what f adds to what is there
 unfoldable pub rounds : (ℕ → ℕ) → ℕ → ℕ → ℕ
 rounds f Q zero = Q
 rounds f Q (suc k) = let P = rounds f Q k in either P (f P)
@@ -57,21 +58,22 @@ unfoldable pub first : ℕ → ℕ → (ℕ → Bool) → ℕ
 first zero i p = i
 first (suc k) i p = elim (p i) [ true ↦ i | false ↦ first k (suc i) p ]
 
--- step 4, the lower bound: the least b(q) over Q (w bounds it, where some state of Q is kept)
+-- step 4, the lower bound: the least b(q) over Q, or w where none is below w
 unfoldable pub fewest : Table → ℕ → ℕ → ℕ → ℕ → ℕ → ℕ
 fewest t S R E Q w = first w 0 (λ d. someMember Q (has (toEnd t S R E d)))
 
--- step 1: from the states before a segment, those behind it: Qj from Qj−1 at a place, R from Ql at the optional part
+-- step 1: the states behind a segment, Qj from Qj−1 at a place and R from Ql at the optional part
 unfoldable pub forward : Table → ℕ → Segment → ℕ
 forward t Q (mandatory S) = after t S Q
 forward t Q (optional S w) = atMost t S Q w
 
--- from the states E kept behind a segment, those kept before it: step 5's Mj−1 at a place, step 4's Ml at the optional part
+-- the states kept before a segment: step 5's Mj−1 from Mj at a place, step 4's Ml at the optional part
 unfoldable pub backward : Table → ℕ → Segment → ℕ → ℕ
 backward t Q (mandatory S) E = before t S Q E
 backward t Q (optional S w) E = both Q (toEnd t S (atMost t S Q w) E w)
 
--- what a segment becomes: step 5's block 1, 1 at a place, step 4's at the optional part (where E, and so b's level, lies in R)
+-- what a segment becomes: step 5's block with bounds 1, 1 at a place, step 4's block at the optional part, where a letter
+-- must lead to a state q with b(q) + 1 ≤ w (for w = 0 there is none; such q are of R, as E is)
 unfoldable pub pruned : Table → ℕ → Segment → ℕ → Block
 pruned t Q (mandatory S) E = block (between t S Q E) 1 1
 pruned t Q (optional S zero) E = block 0 0 0
@@ -79,17 +81,17 @@ pruned t Q (optional S (suc v)) E =
     let R = atMost t S Q (suc v) in
     block (between t S R (toEnd t S R E v)) (fewest t S R E Q (suc v)) (suc v)
 
--- the states possible behind the last segment, from those before the first
+-- the states possible behind the row of segments
 unfoldable pub final : Table → ℕ → List Segment → ℕ
 final t Q [] = Q
 final t Q (s ∷ ss) = final t (forward t Q s) ss
 
--- the states kept before the segments; behind the last these are step 2's E, the accepting ones
+-- the states kept before the row of segments; behind its end these are step 2's E, the accepting states
 unfoldable pub kept : Dfa → ℕ → List Segment → ℕ
 kept b Q [] = both Q (b .accepting)
 kept b Q (s ∷ ss) = backward (b .table) Q s (kept b (forward (b .table) Q s) ss)
 
--- what each segment becomes, in order, from the states Q before the first
+-- what each segment of the row becomes
 unfoldable pub entries : Dfa → ℕ → List Segment → List Block
 entries b Q [] = []
 entries b Q (s ∷ ss) = let P = forward (b .table) Q s in pruned (b .table) Q s (kept b P ss) ∷ entries b P ss
