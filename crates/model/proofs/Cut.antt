@@ -25,13 +25,14 @@ chop [] ps = []
 chop (x ∷ xs) [] = []
 chop (x ∷ xs) (p ∷ ps) = along (x .lower) p ++ chop xs ps
 
--- it spells the same word
+-- a piece so cut spells the same word
 flatten-along : (l : ℕ) (p : List ℕ) (qs : List (List ℕ)) → flatten (along l p ++ qs) ≡ p ++ flatten qs
 unfolding flatten
 flatten-along zero p qs = refl
 flatten-along (suc l) [] qs = flatten-along l [] qs
 flatten-along (suc l) (c ∷ p) qs = ap (_∷_ c) (flatten-along l p qs)
 
+-- and so does a cut
 pub flatten-chop : {xs : List Block} {ps : List (List ℕ)} → Factorization xs ps → flatten (chop xs ps) ≡ flatten ps
 unfolding flatten
 flatten-chop done = refl
@@ -44,12 +45,13 @@ along-parts S zero w ss h l f r = then {x = block S 0 w} (record { within = h; e
 along-parts S (suc k) w ss nil l f r = absurd (omega arith)
 along-parts S (suc k) w ss (cons n h) l f r = then (letter-piece n) (along-parts S k w ss h (omega arith) (omega arith) r)
 
+-- a cut along the blocks gives one along the segments
 pub chopped : {xs : List Block} {ps : List (List ℕ)} → Factorization xs ps → Parts (segments xs) (chop xs ps)
 chopped done = done
 chopped (then {x} {xs} g f) =
     along-parts (x .base) (x .lower) (x .upper - x .lower) (segments xs) (g .within) (g .enough) (omega (arith, g .few)) (chopped f)
 
--- and back
+-- pieces along l places and an optional part are a word so cut
 parts-along : (S l w : ℕ) (ss : List Segment) {qs : List (List ℕ)} → Parts ((replicate l (mandatory S) ++ optional S w ∷ []) ++ ss) qs
     → (p : List ℕ) × Within S p × (l ≤ length p) × (length p ≤ l + w) × (rs : List (List ℕ)) × Parts ss rs × (along l p ++ rs ≡ qs)
 parts-along S zero w ss (then {p} {ps} g f) = (p, g .within, zero-le, omega (arith, g .few), ps, f, refl)
@@ -58,6 +60,7 @@ parts-along S (suc k) w ss (then {p} {ps} g f) =
     let (p', h, l, f', rs, r, e') = parts-along S k w ss f in
     (c ∷ p', cons n h, omega arith, omega arith, rs, r, ap₂ _∷_ (sym e) e')
 
+-- a cut along the segments comes from one along the blocks
 pub glued : (xs : List Block) → Each Bounded xs → {qs : List (List ℕ)} → Parts (segments xs) qs
     → (ps : List (List ℕ)) × Factorization xs ps × (chop xs ps ≡ qs)
 glued [] ok done = ([], done, refl)

@@ -29,19 +29,21 @@ use Rattle.model.proofs.Listed.{listed-whole}
 use Rattle.model.proofs.NormalForm.{normal-spells}
 use Rattle.model.proofs.Room.{narrow-bounded}
 
--- what the first verdict that fits tells of the tests
+-- the first verdict that fits is none exactly when no code is legal
 say-none : (legal illegal singles : Bool) → (say legal illegal singles ≡ None) ↔ (¬ T legal)
 say-none false i s = (λ _ h. h, λ _. refl)
 say-none true false s = (λ e _. omega (arith, ap number e), λ h. absurd (h tt))
 say-none true true true = (λ e _. omega (arith, ap number e), λ h. absurd (h tt))
 say-none true true false = (λ e _. omega (arith, ap number e), λ h. absurd (h tt))
 
+-- and all exactly when some code is legal and none is not
 say-all : (legal illegal singles : Bool) → (say legal illegal singles ≡ All) ↔ (T legal × ¬ T illegal)
 say-all false i s = (λ e. absurd (omega (arith, ap number e)), λ h. absurd (h .0))
 say-all true false s = (λ _. (tt, λ h. h), λ _. refl)
 say-all true true true = (λ e. absurd (omega (arith, ap number e)), λ h. absurd (h .1 tt))
 say-all true true false = (λ e. absurd (omega (arith, ap number e)), λ h. absurd (h .1 tt))
 
+-- a verdict is none or it is not
 none-or-not : (v : Verdict) → (v ≡ None) ⊎ (¬ (v ≡ None))
 none-or-not None = inl refl
 none-or-not All = inr (λ e. omega (arith, ap number e))
@@ -68,6 +70,7 @@ module _ (b : Dfa) (xs : List Block) (ok : Checked b xs) where
         rw (d, e) at (final-out b (ok .states) (2 ^ b .start) (segments xs) (start-in b xs ok) f),
   )
 
+  -- E is not empty exactly when some code is legal
   some-legal : T (someLegal b xs) ↔ ((w : List ℕ) × Legal b xs w)
   unfolding someLegal
   some-legal = (
@@ -78,6 +81,7 @@ module _ (b : Dfa) (xs : List Block) (ok : Checked b xs) where
     λ (w, (s, a)). some-member (finals b xs) (has (b .accepting)) .1 (run (b .table) (b .start) w, in-finals .1 (w, s, refl), a .there),
   )
 
+  -- a final state does not accept exactly when some code is not legal
   some-illegal : T (someIllegal b xs) ↔ ((w : List ℕ) × Matches xs w × ¬ Accepts b w)
   unfolding someIllegal
   some-illegal = (
@@ -91,6 +95,7 @@ module _ (b : Dfa) (xs : List Block) (ok : Checked b xs) where
         some-member (finals b xs) (λ q. not (has (b .accepting) q)) .1 (q, m, not-T (has (b .accepting) q) (λ a. n (member (m .small) a))),
   )
 
+  -- none exactly when no code is legal
   none-exact : (verdict b xs ≡ None) ↔ ((w : List ℕ) → ¬ Legal b xs w)
   unfolding verdict
   none-exact = (
@@ -107,6 +112,7 @@ module _ (b : Dfa) (xs : List Block) (ok : Checked b xs) where
       member (in-finals .1 (w, s, refl) .small)
       (stable (has (b .accepting) (run (b .table) (b .start) w)) (λ n. i (some-illegal .1 (w, s, λ a. n (a .there)))))
 
+  -- all exactly when there is a code and all are legal
   all-exact : (verdict b xs ≡ All) ↔ (((w : List ℕ) × Matches xs w) × ((w : List ℕ) → Matches xs w → Legal b xs w))
   unfolding verdict
   all-exact = (
@@ -124,12 +130,14 @@ module _ (b : Dfa) (xs : List Block) (ok : Checked b xs) where
   unfolding narrowedMask narrowedList
   mask-spells = normal-spells (narrowedList b xs) (narrow-bounded (all-narrow b (2 ^ b .start) (segments xs)))
 
+  -- every legal code is still spelled
   keeps : (w : List ℕ) → Legal b xs w → Matches (narrowedMask b xs) w
   unfolding narrowedList
   keeps w (s, a) =
       let (qs, f, e) = segments-spell xs (ok .bounds) w .1 s in
       mask-spells w .1 (qs, entries-keep b (ok .states) (2 ^ b .start) (segments xs) (start-in b xs ok) f (rw e a), e)
 
+  -- nothing new is spelled
   adds : (w : List ℕ) → Matches (narrowedMask b xs) w → Matches xs w
   unfolding narrowedList
   adds w h =
@@ -154,7 +162,7 @@ module _ (b : Dfa) (xs : List Block) (ok : Checked b xs) where
             (exact .1 (rw (place-segment x j l) at (s .ways P .1 (ps, f, a, rw (along-letter (x .lower) j (getD ps i []) l) e)))),
       )
 
-  -- what place returns: where the verdict is not none the entry, and for none the empty block
+  -- where the verdict is not none, place returns the entry
   shown : ¬ (verdict b xs ≡ None) → (i j : ℕ) → place b xs (suc i) j ≡ getD (narrowedList b xs) (entryOf xs i j) (block 0 0 0)
   unfolding place
   shown h i j = rw down (unless (verdict b xs) h)
@@ -168,6 +176,7 @@ module _ (b : Dfa) (xs : List Block) (ok : Checked b xs) where
       unless One h = refl
       unless Some h = refl
 
+  -- for none it returns the empty set and 0, 0
   hidden : verdict b xs ≡ None → (i j : ℕ) → place b xs i j ≡ block 0 0 0
   unfolding place
   hidden e i j = rw e

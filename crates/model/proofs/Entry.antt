@@ -23,11 +23,13 @@ use Rattle.model.proofs.Cut.{along, chop, chopped, glued, flatten-chop}
 
 -- ---- where things stand
 
+-- a piece has l + 1 parts along its block
 length-along : (l : ℕ) (p : List ℕ) → length (along l p) ≡ suc l
 length-along zero p = refl
 length-along (suc l) [] = ap suc (length-along l [])
 length-along (suc l) (c ∷ p) = ap suc (length-along l p)
 
+-- and a block l + 1 segments
 length-segments : (x : Block) → length (segmentsOf x) ≡ suc (x .lower)
 length-segments x = simp (length-append, length-replicate) (omega arith)
 
@@ -37,12 +39,13 @@ getD-skip l a j xs ys d e =
     let e' : suc (l + a) + j ≡ length xs + (a + j) = omega arith in
     rw (e', getD-append-add)
 
--- a block's segments stand where its entries begin
+-- a block's entries are entries of the row
 begins-lt : (xs : List Block) (i j : ℕ) → i < length xs → j ≤ blockAt xs i .lower → begins xs i + j < length (segments xs)
 begins-lt [] i j h l = absurd (omega arith)
 begins-lt (x ∷ xs) zero j h l = simp (length-append, length-replicate) (omega arith)
 begins-lt (x ∷ xs) (suc i) j h l = simp (length-append, length-replicate) (omega (arith, begins-lt xs i j (omega arith) l))
 
+-- a block's segments stand where its entries begin
 segment-at : (xs : List Block) (i j : ℕ) → i < length xs → j ≤ blockAt xs i .lower
     → getD (segments xs) (begins xs i + j) (optional 0 0) ≡ getD (segmentsOf (blockAt xs i)) j (optional 0 0)
 segment-at [] i j h l = absurd (omega arith)
@@ -80,6 +83,7 @@ place-segment x j h =
 -- ---- every entry by the cuts of the legal codes
 
 module _ (b : Dfa) (xs : List Block) (ok : Checked b xs) where
+  -- the start is in Q0 of the first block
   pub start-in : Member (b .start) (2 ^ b .start)
   start-in = one-in (omega (arith, ok .states, ok .start))
 
@@ -101,6 +105,7 @@ module _ (b : Dfa) (xs : List Block) (ok : Checked b xs) where
     pub ways : (P : List ℕ → Type 0) → Over (b .table) from (getD (segmentsOf (blockAt xs i)) j (optional 0 0)) to P
         ↔ Has b xs (λ ps. P (getD (along (blockAt xs i .lower) (getD ps i [])) j []))
 
+  -- it is so of every place and optional part of the mask
   pub seen-at : (i j : ℕ) → i < length xs → j ≤ blockAt xs i .lower → SeenAt i j
   unfolding narrowedList
   seen-at i j h l =

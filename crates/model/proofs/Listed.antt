@@ -24,6 +24,7 @@ entryOf-skip : (x : Block) (xs : List Block) (i j : ℕ) → entryOf (x ∷ xs) 
 entryOf-skip x xs i zero = omega arith
 entryOf-skip x xs i (suc j) = omega arith
 
+-- a list of an entry for each segment, read where place reads it, is that list
 pub listed-whole : (place : ℕ → ℕ → Block) (xs ys : List Block) → length ys ≡ length (segments xs)
     → ((i j : ℕ) → place (suc i) j ≡ getD ys (entryOf xs i j) (block 0 0 0)) → listed place xs ≡ ys
 listed-whole place [] [] l h = refl

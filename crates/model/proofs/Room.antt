@@ -47,36 +47,42 @@ normal-fits m xs r = record { few = omega (arith, normal-few xs); room = normal-
 
 -- ---- the narrowed list
 
--- where each entry narrows its segment, bounds and uppers are as the segments have them, and blocks well-formed where theirs are
+-- where each entry narrows its segment, each has l ≤ u
 pub narrow-bounded : {ss : List Segment} {ys : List Block} → AllNarrow ss ys → Each Bounded ys
 narrow-bounded none = tt
 narrow-bounded (more n r) = (n .bounds, narrow-bounded r)
 
+-- the uppers are those of the segments
 narrow-uppers : {ss : List Segment} {ys : List Block} → AllNarrow ss ys → uppers ys ≡ uppers (map asBlock ss)
 narrow-uppers none = refl
 narrow-uppers (more n r) = omega (arith, n .upper, narrow-uppers r)
 
+-- and the entries are well-formed where the segments are
 narrow-formed : (m : ℕ) {ss : List Segment} {ys : List Block} → AllNarrow ss ys → Each (WellFormed m) (map asBlock ss) → Each (WellFormed m) ys
 narrow-formed m none h = tt
 narrow-formed m (more n r) (h, hs) =
     (record { bounds = n .bounds; bytes = n .bytes; letters = λ c k. h .letters c (n .within c k) }, narrow-formed m r hs)
 
--- the segments of a mask have its letters, and its uppers where l ≤ u
+-- l places and an optional part in front of a row
 module _ (S : ℕ) (w : ℕ) (ss : List Segment) where
+  -- add l and w to its uppers
   row-uppers : (l : ℕ) → uppers (map asBlock ((replicate l (mandatory S) ++ optional S w ∷ []) ++ ss)) ≡ l + (w + uppers (map asBlock ss))
   row-uppers zero = omega arith
   row-uppers (suc l) = omega (arith, row-uppers l)
 
+  -- have a property where place, part and row have it
   row-each : (P : Block → Type 0) → P (block S 1 1) → P (block S 0 w) → Each P (map asBlock ss)
       → (l : ℕ) → Each P (map asBlock ((replicate l (mandatory S) ++ optional S w ∷ []) ++ ss))
   row-each P p o r zero = (o, r)
   row-each P p o r (suc l) = (p, row-each P p o r l)
 
+-- the segments of a well-formed mask have its uppers
 segments-uppers : (m : ℕ) (xs : List Block) → Each (WellFormed m) xs → uppers (map asBlock (segments xs)) ≡ uppers xs
 segments-uppers m [] h = refl
 segments-uppers m (x ∷ xs) (h, hs) =
     omega (arith, row-uppers (x .base) (x .upper - x .lower) (segments xs) (x .lower), segments-uppers m xs hs, h .bounds)
 
+-- and are well-formed
 segments-formed : (m : ℕ) (xs : List Block) → Each (WellFormed m) xs → Each (WellFormed m) (map asBlock (segments xs))
 segments-formed m [] h = tt
 segments-formed m (x ∷ xs) (h, hs) =

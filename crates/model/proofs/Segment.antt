@@ -29,6 +29,7 @@ one-letter h = go (h .within) (h .enough) (h .few)
     go (cons {c} n nil) l f = (c, n, refl)
     go (cons n (cons m h)) l f = absurd (omega arith)
 
+-- and one letter of S is a piece of it
 pub letter-piece : {S c : ℕ} → Member c S → Piece (block S 1 1) (c ∷ [])
 letter-piece n = record { within = cons n nil; enough = omega arith; few = omega arith }
 
@@ -42,6 +43,7 @@ pub record Narrows (x y : Block) : Type 0 where
   pub upper : y .upper ≡ x .upper
   pub bounds : Bounded y
 
+-- what a segment becomes narrows it
 pub pruned-narrows : (t : Table) (Q : ℕ) (s : Segment) (E : ℕ) → Narrows (asBlock s) (pruned t Q s E)
 unfolding pruned fewest
 pruned-narrows t Q (mandatory S) E =

@@ -22,20 +22,23 @@ Parts ss ps = Factorization (map asBlock ss) ps
 
 -- ---- each entry narrows its segment
 
+-- ys has one block for each segment, which narrows it
 pub data AllNarrow : List Segment → List Block → Type 0 where
   none : AllNarrow [] []
   more : {s : Segment} {ss : List Segment} {y : Block} {ys : List Block} → Narrows (asBlock s) y → AllNarrow ss ys → AllNarrow (s ∷ ss) (y ∷ ys)
 
+-- and so have the entries
 pub all-narrow : (b : Dfa) (Q : ℕ) (ss : List Segment) → AllNarrow ss (entries b Q ss)
 unfolding entries
 all-narrow b Q [] = none
 all-narrow b Q (s ∷ ss) = let P = forward (b .table) Q s in more (pruned-narrows (b .table) Q s (kept b P ss)) (all-narrow b P ss)
 
+-- there are as many as segments
 pub narrow-length : {ss : List Segment} {ys : List Block} → AllNarrow ss ys → length ys ≡ length ss
 narrow-length none = refl
 narrow-length (more n r) = ap suc (narrow-length r)
 
--- so nothing new is spelled
+-- and nothing new is spelled
 pub narrow-adds : {ss : List Segment} {ys : List Block} {ps : List (List ℕ)} → AllNarrow ss ys → Factorization ys ps → Parts ss ps
 narrow-adds none done = done
 narrow-adds (more n r) (then g f) = then (narrows-adds n g) (narrow-adds r f)
@@ -70,7 +73,7 @@ module _ (b : Dfa) (fits : b .table .states < 64) where
   behind : (Q : ℕ) (s : Segment) {q : ℕ} {p : List ℕ} → Member q Q → Piece (asBlock s) p → Member (run (b .table) q p) (forward (b .table) Q s)
   behind Q s {q} {p} m g = in-forward (b .table) fits Q s .1 (q, m, p, g, refl)
 
-  -- a state is possible at the end exactly when pieces lead there
+  -- to a state possible at the end pieces lead
   pub final-in : (Q : ℕ) (ss : List Segment) {r : ℕ} → Member r (final (b .table) Q ss)
       → (q : ℕ) × Member q Q × (ps : List (List ℕ)) × Parts ss ps × (run (b .table) q (flatten ps) ≡ r)
   unfolding final flatten
@@ -80,6 +83,7 @@ module _ (b : Dfa) (fits : b .table .states < 64) where
       let (q, m, p, g, e) = in-forward (b .table) fits Q s .0 m' in
       (q, m, p ∷ ps, then g f, rw (run-append (b .table) q p (flatten ps), e) e')
 
+  -- and where pieces lead is a state possible at the end
   pub final-out : (Q : ℕ) (ss : List Segment) {q : ℕ} {ps : List (List ℕ)} → Member q Q → Parts ss ps
       → Member (run (b .table) q (flatten ps)) (final (b .table) Q ss)
   unfolding final flatten
@@ -125,6 +129,7 @@ module _ (b : Dfa) (fits : b .table .states < 64) where
     pub ways : (P : List ℕ → Type 0) → Over (b .table) from (getD ss k (optional 0 0)) to P
         ↔ ((q : ℕ) × Member q Q × Ahead b q ss (λ ps. P (getD ps k [])))
 
+  -- it is so of every entry
   pub seen : (Q : ℕ) (ss : List Segment) (k : ℕ) → k < length ss → Seen Q ss k
   unfolding entries
   seen Q [] k l = absurd (omega arith)

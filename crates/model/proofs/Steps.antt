@@ -42,6 +42,7 @@ first-least (suc k) i d p l h = go (p i) refl (λ g. first-least k (suc i) d p g
 
 -- ---- rounds
 
+-- one round more: what was there, and what f gives of it
 in-rounds : (f : ℕ → ℕ) (Q k : ℕ) {i : ℕ} → Member i (rounds f Q (suc k)) ↔ (Member i (rounds f Q k) ⊎ Member i (f (rounds f Q k)))
 unfolding rounds
 in-rounds f Q k = in-either (rounds f Q k) (f (rounds f Q k))
@@ -50,17 +51,19 @@ in-rounds f Q k = in-either (rounds f Q k) (f (rounds f Q k))
 pub rounds-mono : (f : ℕ → ℕ) (Q j k : ℕ) {i : ℕ} → j ≤ k → Member i (rounds f Q j) → Member i (rounds f Q k)
 rounds-mono f Q j k {i} l h = le-ind (λ m. Member i (rounds f Q m)) h (λ m _ g. in-rounds f Q m .1 (inl g)) k l
 
--- ---- the letters that stay are letters of S, and a set of 8 bytes
+-- ---- the letters that stay
 
+-- they are letters of S
 pub between-within : (t : Table) (S Q E : ℕ) {c : ℕ} → Member c (between t S Q E) → Member c S
 unfolding between
 between-within t S Q E h = in-members S (λ c. someMember Q (λ q. has E (next t q c))) .0 h .0
 
+-- and a set of 8 bytes
 pub between-bytes : (t : Table) (S Q E : ℕ) → between t S Q E < 2 ^ 64
 unfolding between
 between-bytes t S Q E = members-bytes S (λ c. someMember Q (λ q. has E (next t q c)))
 
--- ---- words
+-- ---- words between states
 
 -- on the way of the word from q each state but the last is in R
 abbrev pub Stays : Table → ℕ → ℕ → List ℕ → Type 0
@@ -88,6 +91,9 @@ module _ (t : Table) (fits : t .states < 64) where
       pick true r h = h tt
       pick false r h = fits
 
+  -- ---- one letter
+
+  -- a state is after one letter of S exactly when a move by one leads there from a state of Q
   pub in-after : (S Q : ℕ) {r : ℕ} → Member r (after t S Q) ↔ ((q : ℕ) × Member q Q × (c : ℕ) × Member c S × (next t q c ≡ r))
   unfolding after reach
   in-after S Q = (
@@ -99,10 +105,12 @@ module _ (t : Table) (fits : t .states < 64) where
         in-union Q (reach t S) .1 (q, m, in-union S (λ c. 2 ^ next t q c) .1 (c, n, rw (← e) (one-in (next-small q c)))),
   )
 
+  -- before E: a state of Q with a move by a letter of S into E
   pub in-before : (S Q E : ℕ) {q : ℕ} → Member q (before t S Q E) ↔ (Member q Q × (c : ℕ) × Member c S × Member (next t q c) E)
   unfolding before
   in-before S Q E = in-related Q S E (λ q c. next t q c) next-small
 
+  -- between Q and E: a letter of S with a move from Q into E
   pub in-between : (S Q E : ℕ) {c : ℕ} → Member c (between t S Q E) ↔ (Member c S × (q : ℕ) × Member q Q × Member (next t q c) E)
   unfolding between
   in-between S Q E = in-related S Q E (λ c q. next t q c) (λ c q. next-small q c)
@@ -118,6 +126,7 @@ module _ (t : Table) (fits : t .states < 64) where
   reaches S Q j k m nil l = rounds-mono (after t S) Q j k (omega arith) m
   reaches S Q j k m (cons n h) l = reaches S Q (suc j) k (round S Q j m n) h (omega arith)
 
+  -- a state of the k-th round is reached by at most k letters
   reached : (S Q k : ℕ) {r : ℕ} → Member r (atMost t S Q k) → Reached t S Q k r
   unfolding rounds
   reached S Q zero {r} h = (r, h, [], nil, zero-le, refl)
@@ -125,10 +134,10 @@ module _ (t : Table) (fits : t .states < 64) where
     where
       go : ((q : ℕ) → Member q (atMost t S Q k) → Reached t S Q k q)
           → Member r (atMost t S Q k) ⊎ Member r (after t S (atMost t S Q k)) → Reached t S Q (suc k) r
-      go before (inl a) = let (q, m, p, w, l, e) = before r a in (q, m, p, w, omega arith, e)
-      go before (inr a) =
+      go ih (inl a) = let (q, m, p, w, l, e) = ih r a in (q, m, p, w, omega arith, e)
+      go ih (inr a) =
           let (s, m', c, n, d) = in-after S (atMost t S Q k) .0 a in
-          let (q, m, p, w, l, e) = before s m' in
+          let (q, m, p, w, l, e) = ih s m' in
           (q, m, p ++ c ∷ [], within-append w (cons n nil), simp length-append (omega arith), rw (run-append t q p (c ∷ []), e) d)
 
   -- the states of R are those reached by at most k letters
@@ -143,6 +152,7 @@ module _ (t : Table) (fits : t .states < 64) where
 
   -- ---- b by its levels: at most d letters
 
+  -- from a state of level d at most d letters lead to E
   leads-in : (S R E d : ℕ) {q : ℕ} → Member q (toEnd t S R E d) → Leads t S R E d q
   unfolding rounds
   leads-in S R E zero h = ([], nil, zero-le, tt, h)
@@ -150,12 +160,13 @@ module _ (t : Table) (fits : t .states < 64) where
     where
       go : ((r : ℕ) → Member r (toEnd t S R E d) → Leads t S R E d r)
           → Member q (toEnd t S R E d) ⊎ Member q (before t S R (toEnd t S R E d)) → Leads t S R E (suc d) q
-      go below (inl a) = let (p, w, l, s, e) = below q a in (p, w, omega arith, s, e)
-      go below (inr a) =
+      go ih (inl a) = let (p, w, l, s, e) = ih q a in (p, w, omega arith, s, e)
+      go ih (inr a) =
           let (m, c, n, k) = in-before S R (toEnd t S R E d) .0 a in
-          let (p, w, l, s, e) = below (next t q c) k in
+          let (p, w, l, s, e) = ih (next t q c) k in
           (c ∷ p, cons n w, omega arith, (m, s), e)
 
+  -- and where they do, the state is of level d
   leads-out : (S R E d : ℕ) {q : ℕ} {p : List ℕ} → Within S p → length p ≤ d → Stays t R q p → Member (run t q p) E → Member q (toEnd t S R E d)
   unfolding rounds
   leads-out S R E d nil l s e = rounds-mono (before t S R) E 0 d zero-le e

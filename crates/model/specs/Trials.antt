@@ -63,10 +63,16 @@ rows =
     ∷ gives C (block 0b01 1 2 ∷ block 0b01 0 3 ∷ []) All (block 0b01 1 5 ∷ [])
     ∷ []
 
--- beside them: joining comes after dropping ("Faults we would expect"); a place of a second block, its optional part, and none
+-- five states in a ring on letter 0; the start accepts
+abbrev pub ring : Dfa
+ring = book 5 1 0 0b1 (1 ∷ 2 ∷ 3 ∷ 4 ∷ 0 ∷ [])
+
+-- beside them: joining comes after dropping ("Faults we would expect"); b passes only states of R (step 3), so that no letter
+-- stays; a place of a second block, its optional part, and none
 unfoldable pub others : List Row
 others =
     tidies (block 0b01 0 1 ∷ block 0b10 0 0 ∷ block 0b01 0 1 ∷ []) (block 0b01 0 2 ∷ [])
+    ∷ gives ring (block 0b1 0 3 ∷ []) One []
     ∷ shows B (block 0b010 1 1 ∷ block 0b101 1 1 ∷ []) 2 1 (block 0b100 1 1)
     ∷ shows C (block 0b01 1 2 ∷ block 0b01 0 3 ∷ []) 2 0 (block 0b01 0 3)
     ∷ shows B (block 0b100 1 3 ∷ []) 1 1 (block 0 0 0)
