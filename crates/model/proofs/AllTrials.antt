@@ -10,14 +10,7 @@ use Rattle.model.specs.Verdict.{narrowedMask, single, every, someLegal, 
 use Rattle.model.specs.Place.{place}
 use Rattle.model.specs.Trials.{AllHold, rows, others}
 
-infixr 5 _&_
--- one row holds, and those behind it
-_&_ : {A B : Type 0} → A → B → A × B
-a & b = (a, b)
-
 -- 01's ten rows, and the facts beside them
 pub trials : AllHold (rows ++ others)
 unfolding has someBelow unionBelow next reach after before between rounds first fewest forward backward pruned final kept entries finals narrowedList dropped join joined normal narrowedMask single every someLegal someIllegal verdict place rows others
-trials =
-    (refl, refl) & (refl, refl) & (refl, refl) & (refl, refl) & (refl, refl) & refl & refl & (refl, refl) & refl & (refl, refl)
-    & refl & (refl, refl) & refl & refl & refl & tt
+trials = (refl, (refl, (refl, (refl, (refl, (refl, (refl, (refl, (refl, (refl, (refl, (refl, (refl, (refl, (refl, tt)))))))))))))))

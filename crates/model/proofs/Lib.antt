@@ -1,4 +1,4 @@
--- The trial rows are checked first: where a definition is wrong, the first error is a row that does not hold.
+-- The checker goes by name, so the trial rows come first: a wrong definition is refused by a row that it breaks.
 pub mod AllTrials
 pub mod Set
 pub mod Automaton

@@ -13,7 +13,7 @@ use Rattle.model.specs.Automaton.{Dfa, Accepts}
 use Rattle.model.specs.Legal.{Legal}
 use Rattle.model.specs.NormalForm.{normal}
 
--- some legal code, in some cut, has the property
+-- some legal code, the joining of the pieces of some cut, has the property in that cut
 abbrev pub Has : Dfa → List Block → (List (List ℕ) → Type 0) → Type 0
 Has b xs P = (ps : List (List ℕ)) × Factorization xs ps × Accepts b (flatten ps) × P ps
 

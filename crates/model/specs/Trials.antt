@@ -38,7 +38,7 @@ pub data Row : Type 0 where
 
 -- the definitions give what the row says
 abbrev pub Holds : Row → Type 0
-Holds (gives b xs v ys) = (verdict b xs ≡ v) × (narrowedMask b xs ≡ ys)
+Holds (gives b xs v ys) = _≡_ {A = Verdict × List Block} (verdict b xs, narrowedMask b xs) (v, ys)
 Holds (none b xs) = verdict b xs ≡ None
 Holds (tidies xs ys) = normal xs ≡ ys
 Holds (shows b xs i j x) = place b xs i j ≡ x
