@@ -7,13 +7,13 @@ use Prim.Native.Nat.{ℕ, zero, suc, _+_, _^_, _≤_, _<_, zero-le}
 use native.Mathlib.Omega.{arith}
 use lib.ListN.{length, getD, drop-of-length-le}
 use Rattle.model.specs.declared.Block.{Block}
-use Rattle.model.specs.Set.{has, Member, someMember}
+use Rattle.model.specs.Set.{Member}
 use Rattle.model.specs.DashedString.{block, Bounded, Within, nil, cons, Piece}
 use Rattle.model.specs.Automaton.{Table, run}
-use Rattle.model.specs.Passes.{Segment, mandatory, optional, after, between, rounds, atMost, toEnd, fewest, forward, backward, pruned}
-use Rattle.model.proofs.Set.{in-none, in-both, some-member}
+use Rattle.model.specs.Passes.{Segment, mandatory, optional, after, between, rounds, atMost, toEnd, forward, backward, pruned}
+use Rattle.model.proofs.Set.{in-none, in-both}
 use Rattle.model.proofs.Words.{within-mono}
-use Rattle.model.proofs.Steps.{first-end, first-least, rounds-mono, between-within, between-bytes, in-after, in-before, in-between, in-atMost, in-toEnd, round, led}
+use Rattle.model.proofs.Steps.{rounds-mono, fewest-end, fewest-least, between-within, between-bytes, in-after, in-before, in-between, in-atMost, in-toEnd, round, led}
 
 -- what a segment spells is what this block spells
 abbrev pub asBlock : Segment → Block
@@ -45,7 +45,7 @@ pub record Narrows (x y : Block) : Type 0 where
 
 -- what a segment becomes narrows it
 pub pruned-narrows : (t : Table) (Q : ℕ) (s : Segment) (E : ℕ) → Narrows (asBlock s) (pruned t Q s E)
-unfolding pruned fewest
+unfolding pruned
 pruned-narrows t Q (mandatory S) E =
     record { within = λ c h. between-within t S Q E h; bytes = between-bytes t S Q E; lower = omega arith; upper = refl; bounds = omega arith }
 pruned-narrows t Q (optional S zero) E =
@@ -57,7 +57,7 @@ pruned-narrows t Q (optional S (suc v)) E =
       bytes = between-bytes t S R (toEnd t S R E v);
       lower = zero-le;
       upper = refl;
-      bounds = omega (arith, first-end (suc v) 0 (λ d. someMember Q (has (toEnd t S R E d))));
+      bounds = fewest-end t S R E Q (suc v);
     }
 
 -- what narrows a block spells nothing that the block does not
@@ -93,12 +93,13 @@ module _ (t : Table) (fits : t .states < 64) where
     λ (m, p, g, e). let (c, n, d) = one-letter g in in-before t fits S Q E .1 (m, c, n, rw d at e),
   )
   in-backward Q (optional S w) E =
-      let M = toEnd t S (atMost t S Q w) E w in (
+      let R = atMost t S Q w in
+      let M = toEnd t S R E w in (
         λ h.
             let (m, k) = in-both Q M .0 h in
-            let (p, n, l, _, e) = in-toEnd t fits S (atMost t S Q w) E w .0 k in
+            let (p, n, l, _, e) = in-toEnd t fits S R E w .0 k in
             (m, p, record { within = n; enough = zero-le; few = l }, e),
-        λ (m, p, g, e). in-both Q M .1 (m, led t fits S Q E w 0 w m (g .within) e (omega (arith, g .few)) (g .few)),
+        λ (m, p, g, e). in-both Q M .1 (m, in-toEnd t fits S R E w .1 (led t fits S Q E w 0 w m (g .within) e (omega (arith, g .few)) (g .few))),
       )
 
   -- the letters of a word that leads from a state of the j-th round to E stay in the optional part
@@ -109,24 +110,23 @@ module _ (t : Table) (fits : t .states < 64) where
       let R = atMost t S Q (suc v) in
       let m' = round t fits S Q j m n in
       let q-in : Member q R = rounds-mono (after t S) Q j (suc v) (omega arith) m in
-      let next-in = led t fits S Q E (suc v) (suc j) v m' h e (omega arith) (omega arith) in
+      let next-in = in-toEnd t fits S R E v .1 (led t fits S Q E (suc v) (suc j) v m' h e (omega arith) (omega arith)) in
       cons (in-between t fits S R (toEnd t S R E v) .1 (n, q, q-in, next-in)) (within-between S Q E v (suc j) m' h e (omega arith))
 
   -- a piece on a way from before the segment to what is kept behind it is spelled by what the segment becomes
   pub pruned-keeps : (Q : ℕ) (s : Segment) (E : ℕ) {q : ℕ} {p : List ℕ} → Member q Q → Piece (asBlock s) p → Member (run t q p) E
       → Piece (pruned t Q s E) p
-  unfolding pruned fewest rounds
+  unfolding pruned rounds
   pruned-keeps Q (mandatory S) E {q} m g e =
       let (c, n, d) = one-letter g in rw d (letter-piece (in-between t fits S Q E .1 (n, q, m, rw d at e)))
   pruned-keeps Q (optional S zero) E {p = p} m g e =
       record { within = rw (drop-of-length-le p {i = 0} (g .few)) nil; enough = zero-le; few = g .few }
   pruned-keeps Q (optional S (suc v)) E {q} {p} m g e =
       let R = atMost t S Q (suc v) in
-      let level = led t fits S Q E (suc v) 0 (length p) m (g .within) e (omega (arith, g .few)) (omega arith) in
-      let met = some-member Q (has (toEnd t S R E (length p))) .1 (q, m, level .there) in
+      let short = led t fits S Q E (suc v) 0 (length p) m (g .within) e (omega (arith, g .few)) (omega arith) in
       record {
         within = within-between S Q E v 0 m (g .within) e (omega (arith, g .few));
-        enough = first-least (suc v) 0 (length p) (λ d. someMember Q (has (toEnd t S R E d))) zero-le met;
+        enough = fewest-least t fits S R E Q (suc v) (length p) m short;
         few = g .few;
       }
 

@@ -6,7 +6,7 @@ use mathlib.Core.Logic.{_↔_, _⊎_, ⊎-elim, inl, inr}
 use mathlib.Core.Bool.{Bool, true, false, cond, _&&_}
 use mathlib.Core.List.{List, [], _∷_, _++_}
 use Prim.Native.Nat.{ℕ, zero, suc, _+_, _*_, _^_, _≤_, _<_, zero-le}
-use native.Mathlib.Nat.{eq-or-lt-of-le}
+use native.Mathlib.Nat.{eq-or-lt-of-le, add-zero, zero-add}
 use native.Mathlib.Decide.{le-ind}
 use native.Mathlib.Omega.{arith}
 use lib.Dec.{T, ltb, ltb→lt}
@@ -14,14 +14,14 @@ use lib.ListN.{length, getD, length-append}
 use Rattle.model.specs.Set.{has, Member, someMember}
 use Rattle.model.specs.DashedString.{Within, nil, cons}
 use Rattle.model.specs.Automaton.{Table, next, run}
-use Rattle.model.specs.Passes.{reach, after, before, between, rounds, atMost, toEnd, first}
-use Rattle.model.proofs.Set.{T-and, in-one, one-in, in-either, in-members, in-union, in-related, members-bytes}
+use Rattle.model.specs.Passes.{reach, after, before, between, rounds, atMost, toEnd, first, fewest}
+use Rattle.model.proofs.Set.{T-and, member, in-one, one-in, in-either, some-member, in-members, in-union, in-related, members-bytes}
 use Rattle.model.proofs.Words.{within-append, run-append}
 
 -- ---- the first that passes
 
 -- it is at most the end
-pub first-end : (k i : ℕ) (p : ℕ → Bool) → first k i p ≤ i + k
+first-end : (k i : ℕ) (p : ℕ → Bool) → first k i p ≤ i + k
 unfolding first
 first-end zero i p = omega arith
 first-end (suc k) i p = go (p i) (first-end k (suc i) p)
@@ -30,8 +30,8 @@ first-end (suc k) i p = go (p i) (first-end k (suc i) p)
     go true h = omega arith
     go false h = omega arith
 
--- and at most each one from i on that passes
-pub first-least : (k i d : ℕ) (p : ℕ → Bool) → i ≤ d → T (p d) → first k i p ≤ d
+-- it is at most each one from i on that passes
+first-least : (k i d : ℕ) (p : ℕ → Bool) → i ≤ d → T (p d) → first k i p ≤ d
 unfolding first
 first-least zero i d p l h = l
 first-least (suc k) i d p l h = go (p i) refl (λ g. first-least k (suc i) d p g h)
@@ -39,6 +39,19 @@ first-least (suc k) i d p l h = go (p i) refl (λ g. first-least k (suc i) d p g
     go : (v : Bool) → p i ≡ v → (suc i ≤ d → first k (suc i) p ≤ d) → elim v [ true ↦ i | false ↦ first k (suc i) p ] ≤ d
     go true e f = l
     go false e f = f (⊎-elim (λ q. absurd (rw (← q, e) at h)) (λ g. g) (eq-or-lt-of-le l))
+
+-- where the end passes, it passes
+first-passes : (k i : ℕ) (p : ℕ → Bool) → T (p (i + k)) → T (p (first k i p))
+unfolding first
+first-passes zero i p h = rw add-zero at h
+first-passes (suc k) i p h = go (p i) refl (first-passes k (suc i) p (rw shift at h))
+  where
+    shift : i + suc k ≡ suc i + k
+    shift = omega arith
+
+    go : (v : Bool) → p i ≡ v → T (p (first k (suc i) p)) → T (p (elim v [ true ↦ i | false ↦ first k (suc i) p ]))
+    go true e f = rw e tt
+    go false e f = f
 
 -- ---- rounds
 
@@ -62,6 +75,11 @@ between-within t S Q E h = in-members S (λ c. someMember Q (λ q. has E (next t
 pub between-bytes : (t : Table) (S Q E : ℕ) → between t S Q E < 2 ^ 64
 unfolding between
 between-bytes t S Q E = members-bytes S (λ c. someMember Q (λ q. has E (next t q c)))
+
+-- the lower bound of an optional part is at most its upper bound
+pub fewest-end : (t : Table) (S R E Q w : ℕ) → fewest t S R E Q w ≤ w
+unfolding fewest
+fewest-end t S R E Q w = omega (arith, first-end w 0 (λ d. someMember Q (has (toEnd t S R E d))))
 
 -- ---- words between states
 
@@ -178,7 +196,30 @@ module _ (t : Table) (fits : t .states < 64) where
   pub in-toEnd : (S R E d : ℕ) {q : ℕ} → Member q (toEnd t S R E d) ↔ Leads t S R E d q
   in-toEnd S R E d = (leads-in S R E d, λ (p, h, l, s, e). leads-out S R E d h l s e)
 
-  -- where R is what Q reaches by at most w letters, a word from the j-th round to E bounds b
+  -- ---- the lower bound of the optional part
+
+  -- a state of Q is of level d
+  near : (S R E Q d : ℕ) → T (someMember Q (has (toEnd t S R E d))) ↔ ((q : ℕ) × Member q Q × Leads t S R E d q)
+  near S R E Q d = (
+    λ h. let (q, m, k) = some-member Q (has (toEnd t S R E d)) .0 h in (q, m, in-toEnd S R E d .0 (member (m .small) k)),
+    λ (q, m, l). some-member Q (has (toEnd t S R E d)) .1 (q, m, in-toEnd S R E d .1 l .there),
+  )
+
+  -- it is at most b(q), for each q of Q
+  pub fewest-least : (S R E Q w d : ℕ) {q : ℕ} → Member q Q → Leads t S R E d q → fewest t S R E Q w ≤ d
+  unfolding fewest
+  fewest-least S R E Q w d {q} m l = first-least w 0 d (λ d. someMember Q (has (toEnd t S R E d))) zero-le (near S R E Q d .1 (q, m, l))
+
+  -- and it is b(q) for some q of Q, where some b(q) is at most w
+  pub fewest-met : (S R E Q w : ℕ) {q : ℕ} → Member q Q → Leads t S R E w q → (q : ℕ) × Member q Q × Leads t S R E (fewest t S R E Q w) q
+  unfolding fewest
+  fewest-met S R E Q w {q} m l =
+      let test : ℕ → Bool = λ d. someMember Q (has (toEnd t S R E d)) in
+      near S R E Q (first w 0 test) .0 (first-passes w 0 test (rw zero-add (near S R E Q w .1 (q, m, l))))
+
+  -- ---- words from a round
+
+  -- where R is what Q reaches by at most w letters, b(q) ≤ d for a state q of the j-th round from which d letters lead to E
   pub led : (S Q E w j d : ℕ) {q : ℕ} {p : List ℕ} → Member q (atMost t S Q j) → Within S p → Member (run t q p) E
-      → j + length p ≤ w → length p ≤ d → Member q (toEnd t S (atMost t S Q w) E d)
-  led S Q E w j d {p = p} m h e l f = in-toEnd S (atMost t S Q w) E d .1 (p, h, f, stays S Q w j m h l, e)
+      → j + length p ≤ w → length p ≤ d → Leads t S (atMost t S Q w) E d q
+  led S Q E w j d {p = p} m h e l f = (p, h, f, stays S Q w j m h l, e)

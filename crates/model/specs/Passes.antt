@@ -1,6 +1,7 @@
 -- The passes (01, "The passes", steps 1 to 5). 01 goes block by block and, in a block, over its places 1 to l and then
--- its optional part. Here these stand in one row of segments, and each pass is one recursion over the row. Q is the set
--- of states possible before a segment, E the set of states kept behind it.
+-- its optional part. Here these stand in one row of segments, and each pass is one recursion over the row. Before place j
+-- of a block stand Qj−1 and Mj−1, behind it Qj and Mj; before the optional part Ql and Ml, behind it R and the block's E.
+-- Below, Q is the set of states possible before a segment, and E the set of states kept behind it.
 use Prim.Native.Nat.{ℕ, zero, suc, _-_, _^_}
 use mathlib.Core.Bool.{Bool, true, false}
 use mathlib.Core.List.{List, [], _∷_, _++_}
