@@ -7,9 +7,9 @@ use Prim.Native.Nat.{ℕ, zero, suc, _+_, _^_, _≤_, _<_, zero-le}
 use native.Mathlib.Omega.{arith}
 use lib.ListN.{length, getD, drop-of-length-le}
 use Rattle.model.specs.declared.Block.{Block}
-use Rattle.model.specs.Set.{Member}
+use Rattle.model.specs.Set.{Member, both}
 use Rattle.model.specs.DashedString.{block, Bounded, Within, nil, cons, Piece}
-use Rattle.model.specs.Automaton.{Table, run}
+use Rattle.model.specs.Automaton.{Table, next, run}
 use Rattle.model.specs.Passes.{Segment, mandatory, optional, after, between, rounds, atMost, toEnd, forward, backward, pruned}
 use Rattle.model.proofs.Set.{in-none, in-both}
 use Rattle.model.proofs.Words.{within-mono}
@@ -53,8 +53,8 @@ pruned-narrows t Q (optional S zero) E =
 pruned-narrows t Q (optional S (suc v)) E =
     let R = atMost t S Q (suc v) in
     record {
-      within = λ c h. between-within t S R (toEnd t S R E v) h;
-      bytes = between-bytes t S R (toEnd t S R E v);
+      within = λ c h. between-within t S R (both R (toEnd t S R E v)) h;
+      bytes = between-bytes t S R (both R (toEnd t S R E v));
       lower = zero-le;
       upper = refl;
       bounds = fewest-end t S R E Q (suc v);
@@ -104,14 +104,16 @@ module _ (t : Table) (fits : t .states < 64) where
 
   -- the letters of a word that leads from a state of the j-th round to E stay in the optional part
   within-between : (S Q E v j : ℕ) {q : ℕ} {p : List ℕ} → Member q (atMost t S Q j) → Within S p → Member (run t q p) E → j + length p ≤ suc v
-      → Within (between t S (atMost t S Q (suc v)) (toEnd t S (atMost t S Q (suc v)) E v)) p
+      → Within (between t S (atMost t S Q (suc v)) (both (atMost t S Q (suc v)) (toEnd t S (atMost t S Q (suc v)) E v))) p
   within-between S Q E v j m nil e l = nil
   within-between S Q E v j {q} m (cons {c} n h) e l =
       let R = atMost t S Q (suc v) in
       let m' = round t fits S Q j m n in
       let q-in : Member q R = rounds-mono (after t S) Q j (suc v) (omega arith) m in
-      let next-in = in-toEnd t fits S R E v .1 (led t fits S Q E (suc v) (suc j) v m' h e (omega arith) (omega arith)) in
-      cons (in-between t fits S R (toEnd t S R E v) .1 (n, q, q-in, next-in)) (within-between S Q E v (suc j) m' h e (omega arith))
+      let next-in : Member (next t q c) R = rounds-mono (after t S) Q (suc j) (suc v) (omega arith) m' in
+      let level = in-toEnd t fits S R E v .1 (led t fits S Q E (suc v) (suc j) v m' h e (omega arith) (omega arith)) in
+      let near = in-both R (toEnd t S R E v) .1 (next-in, level) in
+      cons (in-between t fits S R (both R (toEnd t S R E v)) .1 (n, q, q-in, near)) (within-between S Q E v (suc j) m' h e (omega arith))
 
   -- a piece on a way from before the segment to what is kept behind it is spelled by what the segment becomes
   pub pruned-keeps : (Q : ℕ) (s : Segment) (E : ℕ) {q : ℕ} {p : List ℕ} → Member q Q → Piece (asBlock s) p → Member (run t q p) E

@@ -6,15 +6,14 @@ use mathlib.Core.Logic.{_↔_}
 use mathlib.Core.List.{List, [], _∷_, map, flatten}
 use Prim.Native.Nat.{ℕ, zero, suc, _<_}
 use native.Mathlib.Omega.{arith}
-use lib.ListN.{length, getD, replicate}
+use lib.ListN.{length, getD}
 use Rattle.model.specs.declared.Block.{Block}
 use Rattle.model.specs.Set.{Member}
-use Rattle.model.specs.DashedString.{block, Within, nil, cons, Piece, Factorization, done, then}
-use Rattle.model.specs.Automaton.{Table, Dfa, run}
-use Rattle.model.specs.Passes.{Segment, mandatory, optional, after, forward, pruned, final, kept, entries}
+use Rattle.model.specs.DashedString.{block, Piece, Factorization, done, then}
+use Rattle.model.specs.Automaton.{Dfa, run}
+use Rattle.model.specs.Passes.{Segment, optional, forward, pruned, final, kept, entries}
 use Rattle.model.proofs.Set.{in-both}
 use Rattle.model.proofs.Words.{run-append}
-use Rattle.model.proofs.Steps.{in-after}
 use Rattle.model.proofs.Segment.{asBlock, Narrows, pruned-narrows, narrows-adds, Over, in-forward, in-backward, pruned-keeps}
 
 -- one piece for each segment, in order
@@ -68,34 +67,6 @@ module _ (b : Dfa) (q : ℕ) (P : List (List ℕ) → Type 0) where
       go : {ps : List (List ℕ)} → Parts (s ∷ ss) ps → Member (run (b .table) q (flatten ps)) (b .accepting) → P ps
           → (p : List ℕ) × Piece (asBlock s) p × Ahead b (run (b .table) q p) ss (λ ps. P (p ∷ ps))
       go (then {p} {ps} g f) e x = (p, g, (ps, f, rw run-append at e, x))
-
--- ---- Qj
-
--- r is after exactly j letters of S from a state of Q
-abbrev pub Exactly : Table → ℕ → ℕ → ℕ → ℕ → Type 0
-Exactly t S Q j r = (q : ℕ) × Member q Q × (p : List ℕ) × Within S p × (length p ≡ j) × (run t q p ≡ r)
-
-module _ (t : Table) (fits : t .states < 64) (S : ℕ) where
-  -- to a state behind j places exactly j letters lead
-  exactly-in : (Q j : ℕ) {r : ℕ} → Member r (final t Q (replicate j (mandatory S))) → Exactly t S Q j r
-  unfolding final forward
-  exactly-in Q zero {r} h = (r, h, [], nil, refl, refl)
-  exactly-in Q (suc j) {r} h =
-      let (s, m', p, w, l, e) = exactly-in (after t S Q) j {r = r} h in
-      let (q, m, c, n, d) = in-after t fits S Q .0 m' in
-      (q, m, c ∷ p, cons n w, omega arith, rw d e)
-
-  -- and where they lead is a state behind j places
-  exactly-out : (Q j : ℕ) {q : ℕ} {p : List ℕ} → Member q Q → Within S p → length p ≡ j → Member (run t q p) (final t Q (replicate j (mandatory S)))
-  unfolding final forward
-  exactly-out Q zero m nil l = m
-  exactly-out Q zero m (cons n h) l = absurd (omega arith)
-  exactly-out Q (suc j) m nil l = absurd (omega arith)
-  exactly-out Q (suc j) {q} m (cons {c} n h) l = exactly-out (after t S Q) j (in-after t fits S Q .1 (q, m, c, n, refl)) h (omega arith)
-
-  -- Qj, the set behind j places, has the states after exactly j letters
-  pub in-exactly : (Q j : ℕ) {r : ℕ} → Member r (final t Q (replicate j (mandatory S))) ↔ Exactly t S Q j r
-  in-exactly Q j = (exactly-in Q j, λ (q, m, p, h, l, e). rw e at (exactly-out Q j m h l))
 
 -- ---- the passes over the row
 

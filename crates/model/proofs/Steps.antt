@@ -1,5 +1,5 @@
--- The steps of the passes by letters and words: one letter (after, before, between), at most so many letters (R, and b by
--- its levels), and the first number that passes a test.
+-- The steps of the passes by letters and words: one letter (after, before, between), exactly so many (Qj), at most so many
+-- (R, and b by its levels), and the least b.
 -- Assumes nothing.
 use mathlib.Core.Path.{_≡_, refl, sym}
 use mathlib.Core.Logic.{_↔_, _⊎_, ⊎-elim, inl, inr}
@@ -10,11 +10,11 @@ use native.Mathlib.Nat.{eq-or-lt-of-le, add-zero, zero-add}
 use native.Mathlib.Decide.{le-ind}
 use native.Mathlib.Omega.{arith}
 use lib.Dec.{T, ltb, ltb→lt}
-use lib.ListN.{length, getD, length-append}
+use lib.ListN.{length, getD, replicate, length-append}
 use Rattle.model.specs.Set.{has, Member, someMember}
 use Rattle.model.specs.DashedString.{Within, nil, cons}
 use Rattle.model.specs.Automaton.{Table, next, run}
-use Rattle.model.specs.Passes.{reach, after, before, between, rounds, atMost, toEnd, first, fewest}
+use Rattle.model.specs.Passes.{mandatory, reach, after, before, between, rounds, atMost, toEnd, first, fewest, forward, final}
 use Rattle.model.proofs.Set.{T-and, member, in-one, one-in, in-either, some-member, in-members, in-union, in-related, members-bytes}
 use Rattle.model.proofs.Words.{within-append, run-append}
 
@@ -88,6 +88,10 @@ abbrev pub Stays : Table → ℕ → ℕ → List ℕ → Type 0
 Stays t R q [] = Unit {0}
 Stays t R q (c ∷ p) = Member q R × Stays t R (next t q c) p
 
+-- r is reached from a state of Q by a word of exactly j letters of S
+abbrev pub Exactly : Table → ℕ → ℕ → ℕ → ℕ → Type 0
+Exactly t S Q j r = (q : ℕ) × Member q Q × (p : List ℕ) × Within S p × (length p ≡ j) × (run t q p ≡ r)
+
 -- r is reached from a state of Q by a word of at most k letters of S
 abbrev pub Reached : Table → ℕ → ℕ → ℕ → ℕ → Type 0
 Reached t S Q k r = (q : ℕ) × Member q Q × (p : List ℕ) × Within S p × (length p ≤ k) × (run t q p ≡ r)
@@ -132,6 +136,29 @@ module _ (t : Table) (fits : t .states < 64) where
   pub in-between : (S Q E : ℕ) {c : ℕ} → Member c (between t S Q E) ↔ (Member c S × (q : ℕ) × Member q Q × Member (next t q c) E)
   unfolding between
   in-between S Q E = in-related S Q E (λ c q. next t q c) (λ c q. next-small q c)
+
+  -- ---- Qj: exactly j letters
+
+  -- to a state behind j places exactly j letters lead
+  exactly-in : (S Q j : ℕ) {r : ℕ} → Member r (final t Q (replicate j (mandatory S))) → Exactly t S Q j r
+  unfolding final forward
+  exactly-in S Q zero {r} h = (r, h, [], nil, refl, refl)
+  exactly-in S Q (suc j) {r} h =
+      let (s, m', p, w, l, e) = exactly-in S (after t S Q) j {r = r} h in
+      let (q, m, c, n, d) = in-after S Q .0 m' in
+      (q, m, c ∷ p, cons n w, omega arith, rw d e)
+
+  -- and where they lead is a state behind j places
+  exactly-out : (S Q j : ℕ) {q : ℕ} {p : List ℕ} → Member q Q → Within S p → length p ≡ j → Member (run t q p) (final t Q (replicate j (mandatory S)))
+  unfolding final forward
+  exactly-out S Q zero m nil l = m
+  exactly-out S Q zero m (cons n h) l = absurd (omega arith)
+  exactly-out S Q (suc j) m nil l = absurd (omega arith)
+  exactly-out S Q (suc j) {q} m (cons {c} n h) l = exactly-out S (after t S Q) j (in-after S Q .1 (q, m, c, n, refl)) h (omega arith)
+
+  -- Qj, the set behind j places, has the states after exactly j letters
+  pub in-exactly : (S Q j : ℕ) {r : ℕ} → Member r (final t Q (replicate j (mandatory S))) ↔ Exactly t S Q j r
+  in-exactly S Q j = (exactly-in S Q j, λ (q, m, p, h, l, e). rw e at (exactly-out S Q j m h l))
 
   -- ---- R: at most k letters
 

@@ -7,11 +7,11 @@ use lib.Dec.{T, eqb}
 use Rattle.model.specs.declared.Block.{Block}
 use Rattle.model.specs.DashedString.{block}
 
--- u = 0, or an empty set and l = 0
+-- what is dropped: u = 0, or an empty set and l = 0
 abbrev pub idle : Block → Bool
 idle x = eqb (x .upper) 0 || eqb (x .base) 0 && eqb (x .lower) 0
 
--- without the idle blocks
+-- without those blocks
 unfoldable pub dropped : List Block → List Block
 dropped [] = []
 dropped (x ∷ xs) = cond (idle x) (dropped xs) (x ∷ dropped xs)

@@ -73,14 +73,14 @@ unfoldable pub backward : Table → ℕ → Segment → ℕ → ℕ
 backward t Q (mandatory S) E = before t S Q E
 backward t Q (optional S w) E = both Q (toEnd t S (atMost t S Q w) E w)
 
--- what a segment becomes: step 5's block with bounds 1, 1 at a place, step 4's block at the optional part, where a letter
--- must lead to a state q with b(q) + 1 ≤ w (for w = 0 there is none; such q are of R, as E is)
+-- what a segment becomes: step 5's block with bounds 1, 1 at a place; step 4's block at the optional part, where a letter
+-- stays by a move from R to a state q of R with b(q) + 1 ≤ w, so that for w = 0 none stays
 unfoldable pub pruned : Table → ℕ → Segment → ℕ → Block
 pruned t Q (mandatory S) E = block (between t S Q E) 1 1
 pruned t Q (optional S zero) E = block 0 0 0
 pruned t Q (optional S (suc v)) E =
     let R = atMost t S Q (suc v) in
-    block (between t S R (toEnd t S R E v)) (fewest t S R E Q (suc v)) (suc v)
+    block (between t S R (both R (toEnd t S R E v))) (fewest t S R E Q (suc v)) (suc v)
 
 -- the states possible behind the row of segments
 unfoldable pub final : Table → ℕ → List Segment → ℕ

@@ -22,7 +22,7 @@ number Some = 4
 unfoldable pub narrowedMask : Dfa → List Block → List Block
 narrowedMask b xs = normal (narrowedList b xs)
 
--- one letter, and l = u
+-- what each block is for the verdict one: of one letter, and l = u
 unfoldable pub single : Block → Bool
 single x = eqb (x .lower) (x .upper) && someBelow 64 (λ c. eqb (x .base) (2 ^ c))
 
