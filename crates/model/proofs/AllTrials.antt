@@ -2,7 +2,7 @@
 -- Assumes nothing.
 use mathlib.Core.Path.{refl}
 use mathlib.Core.List.{_++_}
-use Rattle.model.specs.Set.{has, someBelow, unionBelow}
+use Rattle.model.specs.Set.{has, someBelow, unionBelow, oneMember}
 use Rattle.model.specs.Automaton.{next}
 use Rattle.model.specs.Passes.{reach, after, before, between, rounds, first, fewest, forward, backward, pruned, final, kept, entries, finals, narrowedList}
 use Rattle.model.specs.NormalForm.{dropped, join, joined, normal}
@@ -12,5 +12,5 @@ use Rattle.model.specs.Trials.{AllHold, rows, others}
 
 -- 01's ten rows, and the facts beside them
 pub trials : AllHold (rows ++ others)
-unfolding has someBelow unionBelow next reach after before between rounds first fewest forward backward pruned final kept entries finals narrowedList dropped join joined normal narrowedMask single every someLegal someIllegal verdict place rows others
+unfolding has someBelow unionBelow oneMember next reach after before between rounds first fewest forward backward pruned final kept entries finals narrowedList dropped join joined normal narrowedMask single every someLegal someIllegal verdict place rows others
 trials = (refl, (refl, (refl, (refl, (refl, (refl, (refl, (refl, (refl, (refl, (refl, (refl, (refl, (refl, (refl, tt)))))))))))))))

@@ -8,10 +8,10 @@ use native.Mathlib.Omega.{arith}
 use lib.ListN.{length, getD, take, drop, length-drop, length-append, length-replicate}
 use lib.Seq.{split-at, getD-drop}
 use Rattle.model.specs.declared.Block.{Block}
-use Rattle.model.specs.DashedString.{block}
+use Rattle.model.specs.DashedString.{values, block}
 use Rattle.model.specs.Passes.{segments}
 use Rattle.model.specs.Place.{entryOf}
-use Rattle.model.specs.Demand3.{values, listed}
+use Rattle.model.specs.Demand3.{listed}
 
 -- the first k elements of a list, read one by one
 values-take : (f : ℕ → Block) (ys : List Block) (k : ℕ) → k ≤ length ys → ((j : ℕ) → f j ≡ getD ys j (block 0 0 0)) → values f k ≡ take k ys

@@ -1,6 +1,6 @@
 -- Blocks, masks and what they spell (01, "Letters, codes, blocks"). A letter is its number; a word (01: a code) is a list
 -- of letters; a dashed string (01: a mask) is a list of blocks.
-use Prim.Native.Nat.{ℕ, _≤_}
+use Prim.Native.Nat.{ℕ, zero, suc, _≤_}
 use mathlib.Core.Path.{_≡_}
 use mathlib.Core.List.{List, [], _∷_, flatten}
 use lib.ListN.{length, getD}
@@ -10,6 +10,11 @@ use Rattle.model.specs.Set.{Member}
 -- the block of a set S and bounds l, u
 abbrev pub block : ℕ → ℕ → ℕ → Block
 block S l u = record { base = S; lower = l; upper = u }
+
+-- f 0, f 1 and so on, k of them
+abbrev pub values : (ℕ → Block) → ℕ → List Block
+values f zero = []
+values f (suc k) = f 0 ∷ values (λ j. f (suc j)) k
 
 -- each block has the property
 abbrev pub Each : (Block → Type 0) → List Block → Type 0

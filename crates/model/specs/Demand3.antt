@@ -1,5 +1,5 @@
 -- Demand 3 (01, "What the promises hold"): one claim about a book and a whole mask with any number of blocks.
-use Prim.Native.Nat.{ℕ, zero, suc, _<_}
+use Prim.Native.Nat.{ℕ, suc, _<_}
 use mathlib.Core.Path.{_≡_}
 use mathlib.Core.Logic.{_↔_}
 use mathlib.Core.List.{List, [], _∷_, _++_, flatten}
@@ -8,7 +8,7 @@ use Rattle.model.specs.declared.Block.{Block}
 use Rattle.model.specs.declared.Verdict.{Verdict}
 use Rattle.model.specs.declared.Verdict.the-variants.{None, All}
 use Rattle.model.specs.Set.{Member}
-use Rattle.model.specs.DashedString.{blockAt, Factorization, Matches}
+use Rattle.model.specs.DashedString.{values, blockAt, Factorization, Matches}
 use Rattle.model.specs.Automaton.{Dfa, Accepts}
 use Rattle.model.specs.Legal.{Legal}
 use Rattle.model.specs.NormalForm.{normal}
@@ -20,11 +20,6 @@ Has b xs P = (ps : List (List ℕ)) × Factorization xs ps × Accepts b (flatten
 -- the cut has the letter c in place j of block i, both from 0 (64 is no letter)
 abbrev pub Puts : ℕ → ℕ → ℕ → List (List ℕ) → Type 0
 Puts c i j ps = getD (getD ps i []) j 64 ≡ c
-
--- f 0, f 1 and so on, k of them
-abbrev pub values : (ℕ → Block) → ℕ → List Block
-values f zero = []
-values f (suc k) = f 0 ∷ values (λ j. f (suc j)) k
 
 -- what place returns, block by block, for places 1 to l and then 0
 abbrev pub listed : (ℕ → ℕ → Block) → List Block → List Block

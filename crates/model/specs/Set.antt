@@ -3,7 +3,7 @@
 use Prim.Native.Nat.{ℕ, zero, suc, _/_, _%_, _^_, _<_}
 use mathlib.Core.Bool.{Bool, false, cond, _&&_, _||_}
 use lib.Bits.{bitAnd, bitOr}
-use lib.Dec.{T, eqb}
+use lib.Dec.{T, eqb, leb}
 
 -- bit i of s is set
 unfoldable pub has : ℕ → ℕ → Bool
@@ -43,3 +43,11 @@ members s p = unionBelow 64 (λ i. has s i && p i) (λ i. 2 ^ i)
 -- the union of f i, over the members i
 abbrev pub unionOf : ℕ → (ℕ → ℕ) → ℕ
 unionOf s f = unionBelow 64 (has s) f
+
+-- some member is k or above
+unfoldable pub someFrom : ℕ → ℕ → Bool
+someFrom s k = someMember s (leb k)
+
+-- exactly one member
+unfoldable pub oneMember : ℕ → Bool
+oneMember s = someBelow 64 (λ i. eqb s (2 ^ i))

@@ -1,12 +1,12 @@
 -- The narrowed mask and the verdicts, the first that fits (01, "The passes").
-use Prim.Native.Nat.{ℕ, _^_}
+use Prim.Native.Nat.{ℕ}
 use mathlib.Core.Bool.{Bool, true, false, not, _&&_}
 use mathlib.Core.List.{List, [], _∷_}
 use lib.Dec.{eqb}
 use Rattle.model.specs.declared.Block.{Block}
 use Rattle.model.specs.declared.Verdict.{Verdict}
 use Rattle.model.specs.declared.Verdict.the-variants.{None, All, One, Some}
-use Rattle.model.specs.Set.{has, someBelow, someMember}
+use Rattle.model.specs.Set.{has, someMember, oneMember}
 use Rattle.model.specs.Automaton.{Dfa}
 use Rattle.model.specs.Passes.{finals, narrowedList}
 use Rattle.model.specs.NormalForm.{normal}
@@ -24,7 +24,7 @@ narrowedMask b xs = normal (narrowedList b xs)
 
 -- what each block is for the verdict one: of one letter, and l = u
 unfoldable pub single : Block → Bool
-single x = eqb (x .lower) (x .upper) && someBelow 64 (λ c. eqb (x .base) (2 ^ c))
+single x = eqb (x .lower) (x .upper) && oneMember (x .base)
 
 -- each block passes the test
 unfoldable pub every : (Block → Bool) → List Block → Bool
