@@ -16,11 +16,11 @@ some p [] = false
 some p (x ∷ xs) = p x || some p xs
 
 -- the length field: 2 bytes
-unfoldable pub lengthField : List ℕ → ℕ
+abbrev pub lengthField : List ℕ → ℕ
 lengthField bs = numberAt 2 bs 0
 
 -- the kind: 2 bytes
-unfoldable pub kind : List ℕ → ℕ
+abbrev pub kind : List ℕ → ℕ
 kind bs = numberAt 2 bs 2
 
 -- check 1: fewer than 4 bytes, or a length field that isn't the number of bytes lent

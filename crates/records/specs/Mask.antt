@@ -15,7 +15,7 @@ use Rattle.records.specs.Bytes.{numberAt}
 use Rattle.records.specs.Check.{refuse, some, kind, unframed}
 
 -- the number of blocks: 2 bytes
-unfoldable pub count : List ℕ → ℕ
+abbrev pub count : List ℕ → ℕ
 count bs = numberAt 2 bs 4
 
 -- the block in the 12 bytes from byte i on: S, l, u

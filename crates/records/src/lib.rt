@@ -1,5 +1,8 @@
 // Kind 1 and kind 2 records of document 01, "Records": read or refused by the first failing check, and a mask written.
 // What the bytes mean stands in specs/.
+mod blocks;
+mod frame;
+mod number;
 
 // The numbers of a kind 1 record (a book): n, m, the start and the accepting states. Its moves stay in the slice.
 pub struct Book {

@@ -1,0 +1,24 @@
+// What the head of a record says: its length and its kind.
+ghost use mathlib.Core.Path.{_≡_};
+ghost use Prim.Native.Nat.{_≤_};
+ghost use lib.ListN.{length};
+ghost use Rattle.records.specs.Check as check;
+use crate::number;
+
+// Check 1: whether there are fewer than 4 bytes, or the length field isn't their number.
+pub(crate) fn unframed(bytes: &[u8]) -> bool
+    ensures { λ r. ⌜ r ≡ check.unframed (now (bytes .entry)) ⌝ }
+{
+    if bytes.len() < 4 {
+        return true;
+    }
+    number::read(bytes, 0, 2) as usize != bytes.len()
+}
+
+// The kind of a record.
+pub(crate) fn kind(bytes: &[u8]) -> u64
+    requires { ⌜ 4 ≤ length (now bytes) ⌝ }
+    ensures { λ r. ⌜ r ≡ check.kind (now (bytes .entry)) ⌝ }
+{
+    number::read(bytes, 2, 2)
+}
