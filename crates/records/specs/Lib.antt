@@ -4,3 +4,4 @@ pub mod Check
 pub mod Book
 pub mod Mask
 pub mod Written
+pub mod Accepted

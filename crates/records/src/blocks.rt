@@ -5,8 +5,8 @@ ghost use lib.ListN.{length};
 ghost use Rattle.model.specs.Size as size;
 ghost use Rattle.records.specs.Check.{some};
 ghost use Rattle.records.specs.Mask.{blockFrom, blocksFrom, crossed};
-use model::Block;
 use crate::number;
+use model::Block;
 
 // The block in the 12 bytes from byte `at` on.
 pub(crate) fn block_from(bytes: &[u8], at: usize) -> Block

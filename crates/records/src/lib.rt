@@ -1,5 +1,8 @@
 // Kind 1 and kind 2 records of document 01, "Records": read or refused by the first failing check, and a mask written.
 // What the bytes mean stands in specs/.
+ghost use mathlib.Core.Path.{_≡_};
+ghost use Rattle.records.specs.Mask.{readMask};
+
 mod blocks;
 mod frame;
 mod number;
@@ -29,4 +32,34 @@ pub struct Mask {
 pub enum MaskOrRefusal {
     Accepted(Mask),
     Refused(u32),
+}
+
+// A slice as a mask, or the number of the first mask check that fails.
+pub fn read_mask(bytes: &[u8]) -> MaskOrRefusal
+    ensures { λ r. ⌜ r ≡ readMask (now (bytes .entry)) ⌝ }
+{
+    if frame::unframed(bytes) {
+        return MaskOrRefusal::Refused(1);
+    }
+    if frame::kind(bytes) != 2 {
+        return MaskOrRefusal::Refused(2);
+    }
+    if bytes.len() < 6 {
+        return MaskOrRefusal::Refused(3);
+    }
+    let blocks = number::read(bytes, 4, 2) as usize;
+    if 1024 < blocks {
+        return MaskOrRefusal::Refused(4);
+    }
+    if bytes.len() != 6 + 12 * blocks {
+        return MaskOrRefusal::Refused(5);
+    }
+    if blocks::some_crossed(bytes, blocks) {
+        return MaskOrRefusal::Refused(7);
+    }
+    let uppers = blocks::sum_uppers(bytes, blocks);
+    if 1024 < uppers {
+        return MaskOrRefusal::Refused(8);
+    }
+    MaskOrRefusal::Accepted(Mask { blocks, uppers })
 }

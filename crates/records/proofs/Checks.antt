@@ -1,0 +1,61 @@
+-- What a check that doesn't refuse tells.
+-- Assumes nothing.
+use Prim.Native.Nat.{ℕ, zero, suc, _<_}
+use mathlib.Core.Path.{_≡_, refl}
+use mathlib.Core.Logic.{_↔_}
+use mathlib.Core.Bool.{Bool, true, false, _||_, true≢false}
+use mathlib.Core.List.{List, [], _∷_}
+use native.Mathlib.Nat.{lt-of-not-le}
+use native.Mathlib.Omega.{arith}
+use lib.Dec.{T, leb, leb→le, le→leb}
+use lib.ListN.{length, getD}
+use Rattle.model.specs.declared.Block.{Block}
+use Rattle.model.specs.Set.{Member, someFrom}
+use Rattle.model.specs.DashedString.{Each}
+use Rattle.model.proofs.Set.{some-member}
+use Rattle.records.specs.Check.{refuse, some}
+
+-- no refusal: this check doesn't fail, and the next ones don't refuse
+pub peel : (t : Bool) (k r : ℕ) → refuse t (suc k) r ≡ 0 → (t ≡ false) × (r ≡ 0)
+unfolding refuse
+peel true k r h = absurd (omega arith)
+peel false k r h = (refl, h)
+
+-- neither test fires
+pub neither : (a b : Bool) → (a || b ≡ false) ↔ ((a ≡ false) × (b ≡ false))
+neither true b = (λ h. absurd (true≢false h), λ h. h .0)
+neither false b = (λ h. (refl, h), λ h. h .1)
+
+-- a test that can't pass is false
+is-false : (t : Bool) → ¬ T t → t ≡ false
+is-false true h = absurd (h tt)
+is-false false h = refl
+
+-- no member is k or above
+pub none-from : (s k : ℕ) → (someFrom s k ≡ false) ↔ ((i : ℕ) → Member i s → i < k)
+unfolding someFrom
+none-from s k = (
+  λ e i m. lt-of-not-le (λ h. rw e at (some-member s (leb k) .1 (i, m, le→leb k i h))),
+  λ h. is-false (someFrom s k) (λ t. let (i, m, l) = some-member s (leb k) .0 t in omega (arith, h i m, leb→le k i l)),
+)
+
+-- each block has a property that follows from one that each has
+pub each-map : (P Q : Block → Type 0) → ((x : Block) → P x → Q x) → (xs : List Block) → Each P xs → Each Q xs
+each-map P Q f [] h = tt
+each-map P Q f (x ∷ xs) (h, hs) = (f x h, each-map P Q f xs hs)
+
+-- no block passes the test: each has what the test denies
+pub none-each : (p : Block → Bool) (P : Block → Type 0) → ((x : Block) → (p x ≡ false) ↔ P x) → (xs : List Block) → (some p xs ≡ false) ↔ Each P xs
+unfolding some
+none-each p P h [] = (λ e. tt, λ e. refl)
+none-each p P h (x ∷ xs) = (
+  λ e. let (a, b) = neither (p x) (some p xs) .0 e in (h x .0 a, none-each p P h xs .0 b),
+  λ (a, b). neither (p x) (some p xs) .1 (h x .1 a, none-each p P h xs .1 b),
+)
+
+-- no number of a list passes the test: none at any place
+pub none-at : (p : ℕ → Bool) (l : List ℕ) → some p l ≡ false → (i : ℕ) → i < length l → p (getD l i 0) ≡ false
+unfolding some
+none-at p [] e i h = absurd (omega arith)
+none-at p (x ∷ l) e zero h = neither (p x) (some p l) .0 e .0
+none-at p (x ∷ l) e (suc i) h = none-at p l (neither (p x) (some p l) .0 e .1) i (omega arith)

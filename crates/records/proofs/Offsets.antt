@@ -1,0 +1,22 @@
+-- The blocks of a record: how many there are, and which bytes block j is.
+-- Assumes nothing.
+use Prim.Native.Nat.{ℕ, zero, suc, _+_, _*_, _<_}
+use mathlib.Core.Path.{_≡_, refl, ap}
+use mathlib.Core.List.{List}
+use native.Mathlib.Omega.{arith}
+use lib.ListN.{length}
+use Rattle.model.specs.DashedString.{blockAt}
+use Rattle.records.specs.Mask.{blockFrom, blocksFrom}
+
+-- as many blocks as asked for
+pub length-blocks : (k : ℕ) (bs : List ℕ) (i : ℕ) → length (blocksFrom k bs i) ≡ k
+unfolding blocksFrom
+length-blocks zero bs i = refl
+length-blocks (suc k) bs i = ap suc (length-blocks k bs (i + 12))
+
+-- block j is the 12 bytes behind j blocks
+pub block-at : (k : ℕ) (bs : List ℕ) (i j : ℕ) → j < k → blockAt (blocksFrom k bs i) j ≡ blockFrom bs (i + 12 * j)
+unfolding blocksFrom
+block-at zero bs i j h = absurd (omega arith)
+block-at (suc k) bs i zero h = ap (blockFrom bs) (omega arith)
+block-at (suc k) bs i (suc j) h = rw (block-at k bs (i + 12) j (omega arith)) (ap (blockFrom bs) (omega arith))

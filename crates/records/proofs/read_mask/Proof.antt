@@ -1,0 +1,85 @@
+-- `records::read_mask` meets its contract. Assumes nothing.
+use mathlib.Core.Path.{_≡_, _∙_, sym}
+use mathlib.Core.Bool.{false}
+use native.Mathlib.Omega.{arith}
+use Rattle.records.specs.Check.{unframed}
+use Rattle.records.proofs.MaskChecks.{framed-long, refused-1, refused-2, refused-3, refused-4, refused-5, refused-7, refused-8, accepted}
+use borrow.Author.Needs.{needs}
+use Rattle.records.proofs.read_mask.Statement.{statement}
+use Rattle.records.proofs.read_mask.Tie as tie
+use Rattle.records.proofs.read_mask.Reads as reads
+use Rattle.records.proofs.read_mask.Lts as lts
+use Rattle.records.proofs.blocks.some_crossed.Reads as some-crossed-reads
+use Rattle.records.proofs.blocks.sum_uppers.Reads as sum-uppers-reads
+use Rattle.records.proofs.frame.kind.Reads as kind-reads
+use Rattle.records.proofs.frame.unframed.Reads as unframed-reads
+use Rattle.records.proofs.number.read.Reads as read-reads
+
+-- check 1 passed
+framed : (c : tie.Else1) → unframed (c .before .before .before .args .bytes .now) ≡ false
+framed c = sym (c .before .unframed .ensures) ∙ c .if1 .left
+
+unframed-requires : tie.Need-unframed-requires
+unframed-requires c κs = search needs
+
+returns : tie.Need-returns
+returns c = refused-1 _ (sym (c .before .unframed .ensures) ∙ c .if1 .taken)
+
+kind-requires : tie.Need-kind-requires
+kind-requires c κs = framed-long (c .before .before .before .args .bytes .now) (framed c)
+
+returns-2 : tie.Need-returns-2
+returns-2 c = refused-2 _ (framed (c .before .before)) (λ e. omega arith)
+
+returns-3 : tie.Need-returns-3
+returns-3 c = refused-3 _ (framed (c .before .before .before)) (omega arith) (omega arith)
+
+read-requires : tie.Need-read-requires
+read-requires c κs = search needs
+
+returns-4 : tie.Need-returns-4
+returns-4 c = refused-4 _ (framed (c .before .before .before .before .before)) (omega arith) (omega arith) _ (c .before .read .ensures .0) (omega arith)
+
+mul-if5 : tie.Need-mul-if5
+mul-if5 c = search needs
+
+add-if5 : tie.Need-add-if5
+add-if5 c = search needs
+
+returns-5 : tie.Need-returns-5
+returns-5 c = refused-5 _ (framed (c .before .before .before .before .before .before)) (omega arith) (omega arith) _ (c .before .before .read .ensures .0) (omega arith) (c .if5 .taken)
+
+some-crossed-requires : tie.Need-some-crossed-requires
+some-crossed-requires c κs = search needs
+
+returns-6 : tie.Need-returns-6
+returns-6 c = refused-7 _ (framed (c .before .before .before .before .before .before .before .before)) (omega arith) (omega arith) _ (c .before .before .before .before .read .ensures .0) (omega arith) (omega arith) (sym (c .before .some-crossed .ensures) ∙ c .if6 .taken)
+
+sum-uppers-requires : tie.Need-sum-uppers-requires
+sum-uppers-requires c κs = search needs
+
+returns-7 : tie.Need-returns-7
+returns-7 c = refused-8 _ (framed (c .before .before .before .before .before .before .before .before .before .before)) (omega arith) (omega arith) _ (c .before .before .before .before .before .before .read .ensures .0) (omega arith) (omega arith) (sym (c .before .before .before .some-crossed .ensures) ∙ c .before .before .if6 .left) _ (c .before .sum-uppers .ensures) (omega arith)
+
+returns-8 : tie.Need-returns-8
+returns-8 c = accepted _ (framed (c .before .before .before .before .before .before .before .before .before .before)) (omega arith) (omega arith) _ (c .before .before .before .before .before .before .read .ensures .0) (omega arith) (omega arith) (sym (c .before .before .before .some-crossed .ensures) ∙ c .before .before .if6 .left) _ (c .before .sum-uppers .ensures) (omega arith)
+
+pub read-mask-spec : {M : Type 1} → statement M
+read-mask-spec =
+    tie.close
+    (tie.spec
+    unframed-requires
+    returns
+    kind-requires
+    returns-2
+    returns-3
+    read-requires
+    returns-4
+    mul-if5
+    add-if5
+    returns-5
+    some-crossed-requires
+    returns-6
+    sum-uppers-requires
+    returns-7
+    returns-8)
