@@ -5,6 +5,7 @@ pub mod Checks
 pub mod Accepted
 pub mod Over
 pub mod RoundTrip
+pub mod Stores
 pub mod Steps
 pub mod Walk
 pub mod MaskChecks

@@ -20,7 +20,7 @@ use Rattle.records.proofs.Checks.{each-map}
 use Rattle.records.proofs.Accepted.{taken-mask, Native, none-foreign}
 
 -- each block is written in 12 bytes
-length-blocks-bytes : (xs : List Block) → length (blocksBytes xs) ≡ 12 * length xs
+pub length-blocks-bytes : (xs : List Block) → length (blocksBytes xs) ≡ 12 * length xs
 unfolding bytesOf blockBytes blocksBytes
 length-blocks-bytes [] = refl
 length-blocks-bytes (x ∷ xs) = omega (arith, length-blocks-bytes xs)

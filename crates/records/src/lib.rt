@@ -1,11 +1,17 @@
 // Kind 1 and kind 2 records of document 01, "Records": read or refused by the first failing check, and a mask written.
 // What the bytes mean stands in specs/.
 ghost use mathlib.Core.Path.{_≡_};
+ghost use Prim.Native.Nat.{_+_, _*_, _≤_};
+ghost use lib.ListN.{length};
+ghost use Rattle.model.specs.DashedString.{values};
+ghost use Rattle.records.specs.Bytes.{over};
 ghost use Rattle.records.specs.Mask.{readMask};
+ghost use Rattle.records.specs.Written.{numbered, maskBytes};
 
 mod blocks;
 mod frame;
 mod number;
+mod writer;
 
 // The numbers of a kind 1 record (a book): n, m, the start and the accepting states. Its moves stay in the slice.
 pub struct Book {
@@ -62,4 +68,24 @@ pub fn read_mask(bytes: &[u8]) -> MaskOrRefusal
         return MaskOrRefusal::Refused(8);
     }
     MaskOrRefusal::Accepted(Mask { blocks, uppers })
+}
+
+// Writes the first `count` blocks, whose sets and bounds the three slices hold, as a kind 2 record over the first bytes of
+// `out`, and returns how many bytes that is. The blocks go into the part behind the six head bytes.
+pub fn write_mask(
+    bases: &[u64],
+    lowers: &[u16],
+    uppers: &[u16],
+    count: usize,
+    out: &mut [u8],
+) -> usize
+    requires { ⌜ (count ≤ length (now bases)) × (count ≤ length (now lowers)) × (count ≤ length (now uppers)) × (6 + 12 * count ≤ length (now out)) ⌝ }
+    ensures { λ r. ⌜ (r ≡ 6 + 12 * count) × (now (out .exit) ≡ over (maskBytes (values (numbered (now (bases .entry)) (now (lowers .entry)) (now (uppers .entry))) count)) (now (out .entry))) ⌝ }
+{
+    let size = 6 + 12 * count;
+    number::write(out, 0, 2, size as u64);
+    number::write(out, 2, 2, 2);
+    number::write(out, 4, 2, count as u64);
+    writer::write_blocks(bases, lowers, uppers, count, &mut out[6..]);
+    size
 }
