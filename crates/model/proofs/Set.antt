@@ -25,7 +25,7 @@ T-or true b = (λ h. inl tt, λ h. tt)
 T-or false b = (λ h. inr h, λ h. ⊎-elim (λ e. absurd e) (λ e. e) h)
 
 -- two binary digits have four cases
-digits : (P : ℕ → ℕ → Type 0) → P 0 0 → P 0 1 → P 1 0 → P 1 1 → (a b : ℕ) → P (a % 2) (b % 2)
+pub digits : (P : ℕ → ℕ → Type 0) → P 0 0 → P 0 1 → P 1 0 → P 1 1 → (a b : ℕ) → P (a % 2) (b % 2)
 digits P p q r s a b = go (a % 2) (b % 2) (omega arith) (omega arith)
   where
     go : (x y : ℕ) → x < 2 → y < 2 → P x y
@@ -65,7 +65,7 @@ unfolding has
 has-zero i = rw (zero-div (2 ^ i))
 
 -- halving moves the bits down
-has-half : (s i : ℕ) → has s (suc i) ≡ has (s / 2) i
+pub has-half : (s i : ℕ) → has s (suc i) ≡ has (s / 2) i
 unfolding has
 has-half s i = rw (shr-shr s 1 i, one-add i)
 
@@ -135,7 +135,7 @@ below G H empty step k = (find k, λ (i, l, h). le-ind G (step i .1 (inr h)) (λ
     find (suc k) g = ⊎-elim (λ a. let (i, l, h) = find k a in (i, omega arith, h)) (λ h. (k, omega arith, h)) (step k .0 g)
 
 -- some number below k passes the test
-some-below : (k : ℕ) (p : ℕ → Bool) → T (someBelow k p) ↔ ((i : ℕ) × (i < k) × T (p i))
+pub some-below : (k : ℕ) (p : ℕ → Bool) → T (someBelow k p) ↔ ((i : ℕ) × (i < k) × T (p i))
 unfolding someBelow
 some-below k p = below (λ k. T (someBelow k p)) (λ i. T (p i)) (λ h. h) (λ k. T-or (someBelow k p) (p k)) k
 

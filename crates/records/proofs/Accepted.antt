@@ -3,11 +3,11 @@
 use Prim.Native.Nat.{ℕ, zero, suc, _+_, _*_, _^_, _≤_, _<_}
 use mathlib.Core.Path.{_≡_, refl}
 use mathlib.Core.Logic.{_↔_, _⊎_, inl, inr}
-use mathlib.Core.Bool.{Bool, true, false, not, _&&_, _||_, true≢false}
+use mathlib.Core.Bool.{Bool, true, false, not, _&&_, _||_}
 use mathlib.Core.List.{List, [], _∷_}
 use native.Mathlib.Omega.{arith}
 use borrow.Author.Tests.{le-ltb, eq-eqb, ltb-false, leb-false, eqb-true, not-false}
-use lib.Dec.{ltb, leb, eqb, eqb·suc-zero}
+use lib.Dec.{ltb, leb, eqb}
 use lib.ListN.{length, length-drop}
 use Rattle.model.specs.declared.Block.{Block}
 use Rattle.model.specs.Set.{Member, someFrom}
@@ -17,19 +17,14 @@ use Rattle.model.specs.Legal.{Checked}
 use Rattle.model.specs.Size.{uppers, WellFormed, Fits}
 use Rattle.records.specs.Bytes.{Bytes}
 use Rattle.records.specs.Check.{refuse, some, lengthField, kind, unframed}
-use Rattle.records.specs.Book.{bookHead, movesOf, bookOf, outside, stray, unnamed, bookChecks, bookRefusal}
+use Rattle.records.specs.Book.{bookHead, movesOf, bookOf, stray, unnamed, bookChecks, bookRefusal}
 use Rattle.records.specs.Mask.{count, blockFrom, blocksFrom, maskOf, crossed, maskRefusal, foreign}
 use Rattle.records.specs.Accepted.{Sound, Taken}
 use Rattle.records.proofs.Numbers.{number-lt}
 use Rattle.records.proofs.Offsets.{length-blocks}
-use Rattle.records.proofs.Checks.{peel, neither, none-from, none-each, none-at, each-map}
+use Rattle.records.proofs.Checks.{peel, neither, in-range, none-from, none-each, none-at, each-map}
 
 -- ---- books
-
--- a number that isn't outside a range is within it
-within : (most x : ℕ) → outside most x ≡ false → (0 < x) × (x ≤ most)
-within most zero e = absurd (true≢false e)
-within most (suc x) e = (omega arith, ltb-false most (suc x) (rw eqb·suc-zero at e))
 
 -- a move that isn't stray names a state, or is 255
 named : (n r : ℕ) → stray n r ≡ false → (r < n) ⊎ (r ≡ 255)
@@ -50,14 +45,14 @@ book-sound bs h =
     let (range, h) = peel _ _ _ h in
     let (size, h) = peel _ _ _ h in
     let (names, _) = peel _ _ _ h in
-    let (n, m) = neither (outside 63 (b .states)) (outside 64 (b .letters)) .0 range in
+    let (n, m) = in-range b range in
     let (ends, moves) = neither (leb (b .states) (b .start) || someFrom (b .accepting) (b .states)) (some (stray (b .states)) (movesOf bs)) .0 names in
     let (start, accepting) = neither (leb (b .states) (b .start)) (someFrom (b .accepting) (b .states)) .0 ends in
     record {
-      some-state = within 63 (b .states) n .0;
-      states = omega (arith, within 63 (b .states) n .1);
-      some-letter = within 64 (b .letters) m .0;
-      letters = within 64 (b .letters) m .1;
+      some-state = n .0;
+      states = omega (arith, n .1);
+      some-letter = m .0;
+      letters = m .1;
       moves = omega (arith, length-drop 15 bs, eqb-true (length bs) (15 + b .states * b .letters) (not-false _ size));
       start = leb-false (b .states) (b .start) start;
       accepting = none-from (b .accepting) (b .states) .0 accepting;

@@ -1,19 +1,22 @@
 -- What a check that doesn't refuse tells.
 -- Assumes nothing.
-use Prim.Native.Nat.{ℕ, zero, suc, _<_}
+use Prim.Native.Nat.{ℕ, zero, suc, _*_, _≤_, _<_}
 use mathlib.Core.Path.{_≡_, refl}
 use mathlib.Core.Logic.{_↔_}
-use mathlib.Core.Bool.{Bool, true, false, _||_, true≢false}
+use mathlib.Core.Bool.{Bool, true, false, not, _||_, true≢false}
 use mathlib.Core.List.{List, [], _∷_}
-use native.Mathlib.Nat.{lt-of-not-le}
+use native.Mathlib.Nat.{lt-of-not-le, mul-le-mul}
 use native.Mathlib.Omega.{arith}
-use lib.Dec.{T, leb, leb→le, le→leb}
+use borrow.Author.Tests.{ltb-false}
+use lib.Dec.{T, ltb, eqb, eqb·suc-zero, leb, leb→le, le→leb}
 use lib.ListN.{length, getD}
 use Rattle.model.specs.declared.Block.{Block}
 use Rattle.model.specs.Set.{Member, someFrom}
 use Rattle.model.specs.DashedString.{Each}
 use Rattle.model.proofs.Set.{some-member}
-use Rattle.records.specs.Check.{refuse, some}
+use Rattle.records.specs.declared.Book.{Book}
+use Rattle.records.specs.Check.{refuse, some, lengthField, unframed}
+use Rattle.records.specs.Book.{outside, outOfRange}
 
 -- no refusal: this check doesn't fail, and the next ones don't refuse
 pub peel : (t : Bool) (k r : ℕ) → refuse t (suc k) r ≡ 0 → (t ≡ false) × (r ≡ 0)
@@ -59,3 +62,24 @@ unfolding some
 none-at p [] e i h = absurd (omega arith)
 none-at p (x ∷ l) e zero h = neither (p x) (some p l) .0 e .0
 none-at p (x ∷ l) e (suc i) h = none-at p l (neither (p x) (some p l) .0 e .1) i (omega arith)
+
+-- a framed record has at least 4 bytes
+pub framed-long : (bs : List ℕ) → unframed bs ≡ false → 4 ≤ length bs
+unfolding unframed
+framed-long bs e = ltb-false (length bs) 4 (neither (ltb (length bs) 4) (not (eqb (lengthField bs) (length bs))) .0 e .0)
+
+-- a number that isn't outside a range is within it
+within : (most x : ℕ) → outside most x ≡ false → (0 < x) × (x ≤ most)
+within most zero e = absurd (true≢false e)
+within most (suc x) e = (omega arith, ltb-false most (suc x) (rw eqb·suc-zero at e))
+
+-- n and m are in their ranges
+pub in-range : (b : Book) → outOfRange b ≡ false → ((0 < b .states) × (b .states ≤ 63)) × ((0 < b .letters) × (b .letters ≤ 64))
+unfolding outOfRange
+in-range b e =
+    let (n, m) = neither (outside 63 (b .states)) (outside 64 (b .letters)) .0 e in
+    (within 63 (b .states) n, within 64 (b .letters) m)
+
+-- so there are few moves
+pub few-moves : (b : Book) → outOfRange b ≡ false → b .states * b .letters ≤ 63 * 64
+few-moves b e = let (n, m) = in-range b e in mul-le-mul (n .1) (m .1)

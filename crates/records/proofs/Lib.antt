@@ -8,4 +8,5 @@ pub mod RoundTrip
 pub mod Stores
 pub mod Steps
 pub mod Walk
+pub mod BookChecks
 pub mod MaskChecks

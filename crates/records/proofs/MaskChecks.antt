@@ -1,24 +1,17 @@
 -- The mask checks one after the other: which one decides, by what passed before it.
 -- Assumes nothing.
 use mathlib.Core.Path.{_≡_, refl}
-use mathlib.Core.Bool.{Bool, true, false, not}
+use mathlib.Core.Bool.{Bool, true, false}
 use mathlib.Core.List.{List}
 use Prim.Native.Nat.{ℕ, _+_, _*_, _≤_, _<_}
-use native.Mathlib.Omega.{arith}
-use borrow.Author.Tests.{ltb-false, lt-ltb, le-ltb, eq-eqb, ne-eqb}
+use borrow.Author.Tests.{lt-ltb, le-ltb, eq-eqb, ne-eqb}
 use lib.Dec.{ltb, eqb}
 use lib.ListN.{length}
 use Rattle.model.specs.Size.{uppers}
 use Rattle.records.specs.declared.MaskOrRefusal.{MaskOrRefusal}
 use Rattle.records.specs.declared.MaskOrRefusal.the-variants.{Accepted, Refused}
-use Rattle.records.specs.Check.{refuse, some, lengthField, kind, unframed}
-use Rattle.records.proofs.Checks.{neither}
+use Rattle.records.specs.Check.{refuse, some, kind, unframed}
 use Rattle.records.specs.Mask.{count, blocksFrom, maskOf, crossed, maskRefusal, readMask}
-
--- a framed record has at least 4 bytes
-pub framed-long : (bs : List ℕ) → unframed bs ≡ false → 4 ≤ length bs
-unfolding unframed
-framed-long bs e = omega (arith, ltb-false (length bs) 4 (neither (ltb (length bs) 4) (not (eqb (lengthField bs) (length bs))) .0 e .0))
 
 module _ (bs : List ℕ) where
   pub refused-1 : unframed bs ≡ true → Refused 1 ≡ readMask bs

@@ -23,6 +23,10 @@ pub length-over : (new old : List ℕ) → length new ≤ length old → length 
 unfolding over
 length-over new old h = simp (length-append, length-drop) (omega arith)
 
+-- what lies from element n on, as a part of a slice is lent
+pub part-rest : (n : ℕ) (l : List ℕ) → take (length l - n) (drop n l) ≡ drop n l
+part-rest n l = take-all (length l - n) (drop n l) (omega (arith, length-drop n l))
+
 -- bytes over the rest, behind bytes over the first ones
 both-over : (a b old : List ℕ) → a ++ (over b (drop (length a) old) ++ []) ≡ over (a ++ b) old
 unfolding over
@@ -38,6 +42,5 @@ part-over a b old top part h e f =
     let front : take n top ≡ a = rw e (take-over a old) in
     let behind : drop n top ≡ drop n old = rw e (drop-over a old) in
     let few : length (drop n old) ≤ length top - n = omega (arith, length-drop n old) in
-    let all : take (length top - n) (drop n old) ≡ drop n old = take-all (length top - n) (drop n old) few in
     let none : drop (length top - n) (drop n old) ≡ [] = drop-of-length-le (drop n old) few in
-    rw (f, front, behind, all, none) (both-over a b old)
+    rw (f, front, part-rest n top, behind, none) (both-over a b old)

@@ -1,11 +1,14 @@
--- What the loops over the blocks of a record keep from turn to turn.
+-- What the loops over the blocks of a record, and over its moves, keep from turn to turn.
 -- Assumes nothing.
 use mathlib.Core.Path.{_≡_, refl}
 use mathlib.Core.Bool.{Bool, true, false}
 use mathlib.Core.List.{List, [], _∷_}
 use Prim.Native.Nat.{ℕ, zero, suc, _+_, _*_, _-_, _≤_, _<_}
 use native.Mathlib.Nat.{add-zero, add-assoc}
+use native.Mathlib.Numerals.{add-one}
 use native.Mathlib.Omega.{arith}
+use lib.ListN.{length, getD, drop, drop-of-length-le}
+use lib.Seq.{drop-cons}
 use Rattle.model.specs.declared.Block.{Block}
 use Rattle.model.specs.Size.{uppers}
 use Rattle.records.specs.Check.{some}
@@ -67,3 +70,28 @@ module _ (bs : List ℕ) (blocks at left sum : ℕ) (summing : Summing bs blocks
   -- none is left
   pub summing-ends : left ≤ 0 → sum ≡ uppers (blocksFrom blocks bs 6)
   summing-ends h = rw (no-block bs at left h, add-zero) at (summing .whole)
+
+-- a search in a list: whether some element passes the test is whether one from i on does
+pub record Passing (p : ℕ → Bool) (l : List ℕ) (i : ℕ) : Type 0 where
+  pub within : i ≤ length l
+  pub same : some p (drop i l) ≡ some p l
+
+-- no element is looked at yet
+pub passing-starts : (p : ℕ → Bool) (l : List ℕ) → Passing p l 0
+passing-starts p l = record { within = omega arith; same = refl }
+
+module _ (p : ℕ → Bool) (l : List ℕ) (i : ℕ) (passing : Passing p l i) where
+  -- the next element passes
+  pub passing-found : i < length l → p (getD l i 0) ≡ true → true ≡ some p l
+  unfolding some
+  passing-found h t = rw (drop-cons l i 0 h, t) at (passing .same)
+
+  -- it does not
+  pub passing-more : i < length l → p (getD l i 0) ≡ false → Passing p l (i + 1)
+  unfolding some
+  passing-more h t = record { within = omega arith; same = rw (add-one i) (rw (drop-cons l i 0 h, t) at (passing .same)) }
+
+  -- none is left
+  pub passing-ends : length l ≤ i → false ≡ some p l
+  unfolding some
+  passing-ends h = rw (drop-of-length-le l h) at (passing .same)

@@ -36,6 +36,10 @@ bookOf bs = automatonOf (bookHead bs) (movesOf bs)
 abbrev pub outside : ℕ → ℕ → Bool
 outside most x = eqb x 0 || ltb most x
 
+-- check 4: n or m outside its range
+unfoldable pub outOfRange : Book → Bool
+outOfRange b = outside 63 (b .states) || outside 64 (b .letters)
+
 -- the move names no state, and isn't 255
 abbrev pub stray : ℕ → ℕ → Bool
 stray n r = leb n r && not (eqb r 255)
@@ -50,7 +54,7 @@ bookChecks bs b =
     refuse (unframed bs) 1
     (refuse (not (eqb (kind bs) 1)) 2
     (refuse (ltb (length bs) 15) 3
-    (refuse (outside 63 (b .states) || outside 64 (b .letters)) 4
+    (refuse (outOfRange b) 4
     (refuse (not (eqb (length bs) (15 + b .states * b .letters))) 5
     (refuse (unnamed b (movesOf bs)) 6
     0)))))

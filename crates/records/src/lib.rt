@@ -5,11 +5,14 @@ ghost use Prim.Native.Nat.{_+_, _*_, _≤_};
 ghost use lib.ListN.{length};
 ghost use Rattle.model.specs.DashedString.{values};
 ghost use Rattle.records.specs.Bytes.{over};
+ghost use Rattle.records.specs.Book.{readBook};
 ghost use Rattle.records.specs.Mask.{readMask};
 ghost use Rattle.records.specs.Written.{numbered, maskBytes};
 
+mod automaton;
 mod blocks;
 mod frame;
+mod moves;
 mod number;
 mod writer;
 
@@ -38,6 +41,32 @@ pub struct Mask {
 pub enum MaskOrRefusal {
     Accepted(Mask),
     Refused(u32),
+}
+
+// A slice as a book, or the number of the first book check that fails.
+pub fn read_book(bytes: &[u8]) -> BookOrRefusal
+    ensures { λ r. ⌜ r ≡ readBook (now (bytes .entry)) ⌝ }
+{
+    if frame::unframed(bytes) {
+        return BookOrRefusal::Refused(1);
+    }
+    if frame::kind(bytes) != 1 {
+        return BookOrRefusal::Refused(2);
+    }
+    if bytes.len() < 15 {
+        return BookOrRefusal::Refused(3);
+    }
+    let book = automaton::head(bytes);
+    if automaton::out_of_range(book) {
+        return BookOrRefusal::Refused(4);
+    }
+    if bytes.len() != 15 + book.states * book.letters {
+        return BookOrRefusal::Refused(5);
+    }
+    if automaton::unnamed(book, &bytes[15..]) {
+        return BookOrRefusal::Refused(6);
+    }
+    BookOrRefusal::Accepted(book)
 }
 
 // A slice as a mask, or the number of the first mask check that fails.

@@ -3,7 +3,8 @@ use mathlib.Core.Path.{_≡_, _∙_, sym}
 use mathlib.Core.Bool.{false}
 use native.Mathlib.Omega.{arith}
 use Rattle.records.specs.Check.{unframed}
-use Rattle.records.proofs.MaskChecks.{framed-long, refused-1, refused-2, refused-3, refused-4, refused-5, refused-7, refused-8, accepted}
+use Rattle.records.proofs.Checks.{framed-long}
+use Rattle.records.proofs.MaskChecks.{refused-1, refused-2, refused-3, refused-4, refused-5, refused-7, refused-8, accepted}
 use borrow.Author.Needs.{needs}
 use Rattle.records.proofs.read_mask.Statement.{statement}
 use Rattle.records.proofs.read_mask.Tie as tie

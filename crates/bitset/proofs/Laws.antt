@@ -1,0 +1,172 @@
+-- What the code does to the number of a set, in terms of the set's members.
+-- Assumes nothing.
+use mathlib.Core.Path.{_≡_, refl, sym}
+use mathlib.Core.Logic.{_↔_, _⊎_, inl, inr, ⊎-elim}
+use mathlib.Core.Bool.{Bool, true, false, not}
+use Prim.Native.Nat.{ℕ, zero, suc, _+_, _-_, _/_, _%_, _^_, _≤_, _<_}
+use native.Mathlib.Nat.{one-mul, pow-suc, le-div-iff-mul-le, lt-of-not-le, mod-self}
+use native.Mathlib.Omega.{arith}
+use borrow.Author.Tests.{eq-eqb, eqb-true, eqb-false}
+use lib.Arith.{bin-ind}
+use lib.Bits.{bitAnd, and-step, and-self, and-mask}
+use lib.Dec.{T, eqb, leb, ltb, eqb→eq, eqb-refl, eqb·suc-zero, ltb→lt, leb→le, le→leb}
+use lib.Pow.{pow-pos, pow-mono, shr-shr}
+use Rattle.model.specs.Set.{has, Member, either, someFrom, oneMember}
+use Rattle.model.proofs.Set.{digits, has-half, some-below, member, in-one, one-in, in-either, some-member}
+
+-- tests that pass in the same cases are equal
+pub same-test : (a b : Bool) → (T a ↔ T b) → a ≡ b
+same-test true true h = refl
+same-test true false h = absurd (h .0 tt)
+same-test false true h = absurd (h .1 tt)
+same-test false false h = refl
+
+-- the test for 0
+is-zero : (x : ℕ) → T (eqb x 0) ↔ (x ≡ 0)
+is-zero x = (eqb→eq x 0, λ e. rw e tt)
+
+-- and its opposite
+is-positive : (x : ℕ) → T (not (eqb x 0)) ↔ (0 < x)
+is-positive zero = (λ h. absurd h, λ h. absurd (omega arith))
+is-positive (suc x) = (λ h. omega arith, λ h. rw (eqb·suc-zero x) tt)
+
+-- a number of 2 ^ k or more shifts to more than 0, and no other does
+shifted-positive : (s k : ℕ) → (0 < s / 2 ^ k) ↔ (2 ^ k ≤ s)
+shifted-positive s k = rw one-mul at (le-div-iff-mul-le {k = 2 ^ k} {x = 1} {y = s} (pow-pos k))
+
+-- ---- bits and members
+
+-- bit 0 is the last digit
+has-first : (s : ℕ) → T (has s 0) ↔ (s % 2 ≡ 1)
+unfolding has
+has-first s = (λ h. omega (arith, eqb→eq (s / 2 ^ 0 % 2) 1 h), λ e. rw (eq-eqb (s / 2 ^ 0 % 2) 1 (omega arith)) tt)
+
+-- a number with bit i is at least 2 ^ i
+has-le : (s i : ℕ) → T (has s i) → 2 ^ i ≤ s
+unfolding has
+has-le s i h = shifted-positive s i .0 (omega (arith, eqb→eq (s / 2 ^ i % 2) 1 h))
+
+-- a power of 2 in 8 bytes
+exponent-small : (i : ℕ) → 2 ^ i < 2 ^ 64 → i < 64
+exponent-small i h = lt-of-not-le (λ l. omega (arith, pow-mono {i = 64} {j = i} l))
+
+-- a bit of 8 bytes is a member
+pub bit-member : (s i : ℕ) → s < 2 ^ 64 → T (has s i) → Member i s
+bit-member s i h t = member (exponent-small i (omega (arith, has-le s i t))) t
+
+-- numbers with the same bit 0 have the same last digit
+same-digit : (s t : ℕ) → T (has s 0) ↔ T (has t 0) → s % 2 ≡ t % 2
+same-digit s t (f, g) =
+    digits (λ x y. (x ≡ 1 → y ≡ 1) → (y ≡ 1 → x ≡ 1) → x ≡ y) (λ p q. refl) (λ p q. q refl) (λ p q. sym (p refl)) (λ p q. refl) s t
+    (λ e. has-first t .0 (f (has-first s .1 e)))
+    (λ e. has-first s .0 (g (has-first t .1 e)))
+
+-- numbers of n binary digits with the same bits are equal
+same-bits : (n s t : ℕ) → s < 2 ^ n → t < 2 ^ n → ((i : ℕ) → T (has s i) ↔ T (has t i)) → s ≡ t
+same-bits zero s t a b h = omega arith
+same-bits (suc n) s t a b h =
+    omega (
+      arith,
+      same-digit s t (h 0),
+      same-bits n (s / 2) (t / 2) (omega (arith, pow-suc 2 n)) (omega (arith, pow-suc 2 n)) (λ i. rw (has-half s i, has-half t i) at (h (suc i))),
+    )
+
+-- sets with the same members are equal
+pub same-members : (s t : ℕ) → s < 2 ^ 64 → t < 2 ^ 64 → ((i : ℕ) → Member i s ↔ Member i t) → s ≡ t
+same-members s t a b h = same-bits 64 s t a b (λ i. (λ x. h i .0 (bit-member s i a x) .there, λ x. h i .1 (bit-member t i b x) .there))
+
+-- in a set with i added: in the set, or i
+pub in-add : (s i j : ℕ) → i < 64 → Member j (either s (2 ^ i)) ↔ (Member j s ⊎ (j ≡ i))
+in-add s i j h = (
+  λ m. ⊎-elim inl (λ x. inr (in-one x)) (in-either s (2 ^ i) .0 m),
+  λ m. in-either s (2 ^ i) .1 (⊎-elim inl (λ e. inr (rw e (one-in h))) m),
+)
+
+-- ---- members from k on
+
+-- some member is k or above
+pub some-from : (s k : ℕ) → T (someFrom s k) ↔ ((i : ℕ) × Member i s × (k ≤ i))
+unfolding someFrom
+some-from s k = (
+  λ h. let (i, m, l) = some-member s (leb k) .0 h in (i, m, leb→le k i l),
+  λ (i, m, l). some-member s (leb k) .1 (i, m, le→leb k i l),
+)
+
+-- what holds of odd numbers, and of an even one where it holds of its half, holds of every number above 0
+halving : (P : ℕ → Type 0) → ((s : ℕ) → s % 2 ≡ 1 → P s) → ((s : ℕ) → s % 2 ≡ 0 → 0 < s / 2 → P (s / 2) → P s) → (s : ℕ) → 0 < s → P s
+halving P odd even = bin-ind (λ s. 0 < s → P s) (λ h. absurd (omega arith)) (λ s next h. go s next h (eqb (s % 2) 1) refl)
+  where
+    go : (s : ℕ) → (0 < s / 2 → P (s / 2)) → 0 < s → (v : Bool) → eqb (s % 2) 1 ≡ v → P s
+    go s next h true e = odd s (eqb-true (s % 2) 1 e)
+    go s next h false e =
+        let n = eqb-false (s % 2) 1 e in
+        let l : 0 < s / 2 = omega arith in
+        even s (omega arith) l (next l)
+
+-- a number above 0 has a bit
+some-bit : (s : ℕ) → 0 < s → (i : ℕ) × T (has s i)
+some-bit = halving (λ s. (i : ℕ) × T (has s i)) (λ s o. (0, has-first s .1 o)) (λ s e l (i, b). (suc i, rw has-half b))
+
+-- shifting moves the bits down
+has-shift : (s k i : ℕ) → has (s / 2 ^ k) i ≡ has s (k + i)
+unfolding has
+has-shift s k i = rw (shr-shr s k i)
+
+-- some member is k or above exactly where the number is at least 2 ^ k
+pub some-from-le : (s k : ℕ) → s < 2 ^ 64 → T (someFrom s k) ↔ (2 ^ k ≤ s)
+some-from-le s k h = (
+  λ t. let (i, m, l) = some-from s k .0 t in omega (arith, pow-mono l, has-le s i (m .there)),
+  λ l.
+      let (i, b) = some-bit (s / 2 ^ k) (shifted-positive s k .1 l) in
+      some-from s k .1 (k + i, bit-member s (k + i) h (rw (has-shift s k i) at b), omega arith),
+)
+
+-- ---- one member
+
+-- exactly one member: the set of a number below 64
+pub one-member : (s : ℕ) → T (oneMember s) ↔ ((i : ℕ) × (i < 64) × (s ≡ 2 ^ i))
+unfolding oneMember
+one-member s = (
+  λ h. let (i, l, e) = some-below 64 (λ i. eqb s (2 ^ i)) .0 h in (i, l, eqb→eq s (2 ^ i) e),
+  λ (i, l, e). some-below 64 (λ i. eqb s (2 ^ i)) .1 (i, l, rw e (eqb-refl (2 ^ i))),
+)
+
+-- a number shares no bit with the number before it exactly where it is a power of 2
+power : (s : ℕ) → 0 < s → (bitAnd s (s - 1) ≡ 0) ↔ ((i : ℕ) × (s ≡ 2 ^ i))
+power s h = (halving (λ s. bitAnd s (s - 1) ≡ 0 → (i : ℕ) × (s ≡ 2 ^ i)) odd even s h, λ (i, e). rw (e, and-mask (2 ^ i) i, mod-self))
+  where
+    odd : (s : ℕ) → s % 2 ≡ 1 → bitAnd s (s - 1) ≡ 0 → (i : ℕ) × (s ≡ 2 ^ i)
+    odd s o e = let half : (s - 1) / 2 ≡ s / 2 = omega arith in (0, omega (arith, rw (half, and-self) at (and-step s (s - 1))))
+
+    even : (s : ℕ) → s % 2 ≡ 0 → 0 < s / 2 → (bitAnd (s / 2) (s / 2 - 1) ≡ 0 → (i : ℕ) × (s / 2 ≡ 2 ^ i))
+        → bitAnd s (s - 1) ≡ 0 → (i : ℕ) × (s ≡ 2 ^ i)
+    even s o l next e =
+        let half : (s - 1) / 2 ≡ s / 2 - 1 = omega arith in
+        let (i, p) = next (omega (arith, rw half at (and-step s (s - 1)))) in
+        (suc i, omega (arith, pow-suc 2 i))
+
+-- ---- the code's tests
+
+-- a number above 0 that shares no bit with the number before it
+pub one-member-test : (s : ℕ) → s < 2 ^ 64 → 0 < s → eqb (bitAnd s (s - 1)) 0 ≡ oneMember s
+one-member-test s small h =
+    same-test (eqb (bitAnd s (s - 1)) 0) (oneMember s) (
+      λ t. let (i, e) = power s h .0 (is-zero (bitAnd s (s - 1)) .0 t) in one-member s .1 (i, exponent-small i (omega arith), e),
+      λ t. let (i, l, e) = one-member s .0 t in is-zero (bitAnd s (s - 1)) .1 (power s h .1 (i, e)),
+    )
+
+-- a number that shifts to more than 0
+pub some-from-test : (s k : ℕ) → s < 2 ^ 64 → not (eqb (s / 2 ^ k) 0) ≡ someFrom s k
+some-from-test s k small =
+    same-test (not (eqb (s / 2 ^ k) 0)) (someFrom s k) (
+      λ t. some-from-le s k small .1 (shifted-positive s k .0 (is-positive (s / 2 ^ k) .0 t)),
+      λ t. is-positive (s / 2 ^ k) .1 (shifted-positive s k .1 (some-from-le s k small .0 t)),
+    )
+
+-- no member is 64 or above
+pub some-from-past : (s k : ℕ) → 64 ≤ k → ltb k 64 ≡ someFrom s k
+some-from-past s k h =
+    same-test (ltb k 64) (someFrom s k) (
+      λ t. absurd (omega (arith, ltb→lt k 64 t)),
+      λ t. let (i, m, l) = some-from s k .0 t in absurd (omega (arith, m .small)),
+    )

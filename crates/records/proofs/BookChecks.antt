@@ -1,0 +1,58 @@
+-- The book checks one after the other: which one decides, by what passed before it.
+-- Assumes nothing.
+use mathlib.Core.Path.{_≡_, refl}
+use mathlib.Core.Bool.{Bool, true, false, not}
+use mathlib.Core.List.{List}
+use Prim.Native.Nat.{ℕ, _+_, _*_, _-_, _≤_, _<_}
+use borrow.Author.Tests.{lt-ltb, le-ltb, eq-eqb, ne-eqb}
+use lib.Dec.{ltb, eqb}
+use lib.ListN.{length, take, drop}
+use Rattle.records.specs.declared.Book.{Book}
+use Rattle.records.specs.declared.BookOrRefusal.{BookOrRefusal}
+use Rattle.records.specs.declared.BookOrRefusal.the-variants.{Accepted, Refused}
+use Rattle.records.specs.Check.{refuse, kind, unframed}
+use Rattle.records.specs.Book.{bookHead, movesOf, outOfRange, unnamed, bookChecks, readBook}
+use Rattle.records.proofs.Over.{part-rest}
+
+module _ (bs : List ℕ) where
+  pub refused-1 : unframed bs ≡ true → Refused 1 ≡ readBook bs
+  unfolding refuse bookChecks readBook
+  refused-1 e = simp e
+
+  module _ (framed : unframed bs ≡ false) where
+    pub refused-2 : (kind bs ≡ 1 → ⊥) → Refused 2 ≡ readBook bs
+    unfolding refuse bookChecks readBook
+    refused-2 h = simp (framed, ne-eqb (kind bs) 1 h)
+
+    module _ (right : kind bs ≡ 1) where
+      e2 : eqb (kind bs) 1 ≡ true
+      e2 = eq-eqb (kind bs) 1 right
+
+      pub refused-3 : length bs < 15 → Refused 3 ≡ readBook bs
+      unfolding refuse bookChecks readBook
+      refused-3 h = simp (framed, e2, lt-ltb (length bs) 15 h)
+
+      module _ (long : 15 ≤ length bs) (b : Book) (head : b ≡ bookHead bs) where
+        e3 : ltb (length bs) 15 ≡ false
+        e3 = le-ltb (length bs) 15 long
+
+        pub refused-4 : outOfRange b ≡ true → Refused 4 ≡ readBook bs
+        unfolding refuse bookChecks readBook
+        refused-4 h = simp (framed, e2, e3, ← head, h)
+
+        module _ (ranged : outOfRange b ≡ false) where
+          pub refused-5 : (length bs ≡ 15 + b .states * b .letters → ⊥) → Refused 5 ≡ readBook bs
+          unfolding refuse bookChecks readBook
+          refused-5 h = simp (framed, e2, e3, ← head, ranged, ne-eqb (length bs) (15 + b .states * b .letters) h)
+
+          module _ (exact : length bs ≡ 15 + b .states * b .letters) where
+            e5 : eqb (length bs) (15 + b .states * b .letters) ≡ true
+            e5 = eq-eqb (length bs) (15 + b .states * b .letters) exact
+
+            pub refused-6 : unnamed b (take (length bs - 15) (drop 15 bs)) ≡ true → Refused 6 ≡ readBook bs
+            unfolding refuse movesOf bookChecks readBook
+            refused-6 h = simp (framed, e2, e3, ← head, ranged, e5, rw part-rest at h)
+
+            pub accepted : unnamed b (take (length bs - 15) (drop 15 bs)) ≡ false → Accepted b ≡ readBook bs
+            unfolding refuse movesOf bookChecks readBook
+            accepted h = simp (framed, e2, e3, ← head, ranged, e5, rw part-rest at h)

@@ -1,0 +1,25 @@
+-- `records::automaton::out_of_range` meets its contract. Assumes nothing.
+use Rattle.records.specs.Book.{outOfRange}
+use borrow.Author.Needs.{needs}
+use Rattle.records.proofs.automaton.out_of_range.Statement.{statement}
+use Rattle.records.proofs.automaton.out_of_range.Tie as tie
+use Rattle.records.proofs.automaton.out_of_range.Reads as reads
+use Rattle.records.proofs.automaton.out_of_range.Lts as lts
+use Rattle.records.proofs.automaton.outside.Reads as outside-reads
+
+outside-requires : tie.Need-outside-requires
+outside-requires c κs = search needs
+
+returns : tie.Need-returns
+unfolding outOfRange
+returns c = rw (← c .before .outside .ensures, c .if1 .taken)
+
+outside-requires-2 : tie.Need-outside-requires-2
+outside-requires-2 c κs = search needs
+
+returns-2 : tie.Need-returns-2
+unfolding outOfRange
+returns-2 c = rw (← c .before .before .outside .ensures, c .before .if1 .left, c .outside2 .ensures)
+
+pub out-of-range-spec : {M : Type 1} → statement M
+out-of-range-spec = tie.close (tie.spec outside-requires returns outside-requires-2 returns-2)

@@ -1,0 +1,15 @@
+-- `records::automaton::outside` meets its contract. Assumes nothing.
+use borrow.Author.Tests.{eq-eqb, ne-eqb}
+use Rattle.records.proofs.automaton.outside.Statement.{statement}
+use Rattle.records.proofs.automaton.outside.Tie as tie
+use Rattle.records.proofs.automaton.outside.Reads as reads
+use Rattle.records.proofs.automaton.outside.Lts as lts
+
+returns : tie.Need-returns
+returns c = rw (eq-eqb _ _ (c .if1 .taken))
+
+returns-2 : tie.Need-returns-2
+returns-2 c = rw (ne-eqb _ _ (c .if1 .left))
+
+pub outside-spec : {M : Type 1} → statement M
+outside-spec = tie.close (tie.spec returns returns-2)
