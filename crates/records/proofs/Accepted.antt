@@ -18,7 +18,7 @@ use Rattle.model.specs.Size.{uppers, WellFormed, Fits}
 use Rattle.records.specs.Bytes.{Bytes}
 use Rattle.records.specs.Check.{refuse, some, lengthField, kind, unframed}
 use Rattle.records.specs.Book.{bookHead, movesOf, bookOf, stray, unnamed, bookChecks, bookRefusal}
-use Rattle.records.specs.Mask.{count, blockFrom, blocksFrom, maskOf, crossed, maskRefusal, foreign}
+use Rattle.records.specs.Mask.{count, blockFrom, blocksFrom, maskOf, crossed, maskRefusal, beyond, foreign}
 use Rattle.records.specs.Accepted.{Sound, Taken}
 use Rattle.records.proofs.Numbers.{number-lt}
 use Rattle.records.proofs.Offsets.{length-blocks}
@@ -127,7 +127,7 @@ Native m x = (c : ℕ) → Member c (x .base) → c < m
 -- check 9 leaves exactly these
 pub none-foreign : (m : ℕ) (xs : List Block) → (foreign m xs ≡ false) ↔ Each (Native m) xs
 unfolding foreign
-none-foreign m xs = none-each (λ x. someFrom (x .base) m) (Native m) (λ x. none-from (x .base) m) xs
+none-foreign m xs = none-each (beyond m) (Native m) (λ x. none-from (x .base) m) xs
 
 -- blocks with l ≤ u, a set of 8 bytes and letters below m are well-formed
 formed : (m : ℕ) (xs : List Block) → Each Bounded xs → Each (λ x. x .base < 2 ^ 64) xs → Each (Native m) xs → Each (WellFormed m) xs

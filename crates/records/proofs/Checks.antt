@@ -8,12 +8,12 @@ use mathlib.Core.List.{List, [], _∷_}
 use native.Mathlib.Nat.{lt-of-not-le, mul-le-mul}
 use native.Mathlib.Omega.{arith}
 use borrow.Author.Tests.{ltb-false}
-use lib.Dec.{T, ltb, eqb, eqb·suc-zero, leb, leb→le, le→leb}
+use lib.Dec.{T, ltb, eqb, eqb·suc-zero}
 use lib.ListN.{length, getD}
 use Rattle.model.specs.declared.Block.{Block}
 use Rattle.model.specs.Set.{Member, someFrom}
 use Rattle.model.specs.DashedString.{Each}
-use Rattle.model.proofs.Set.{some-member}
+use Rattle.bitset.proofs.Laws.{some-from}
 use Rattle.records.specs.declared.Book.{Book}
 use Rattle.records.specs.Check.{refuse, some, lengthField, unframed}
 use Rattle.records.specs.Book.{outside, outOfRange}
@@ -36,10 +36,9 @@ is-false false h = refl
 
 -- no member is k or above
 pub none-from : (s k : ℕ) → (someFrom s k ≡ false) ↔ ((i : ℕ) → Member i s → i < k)
-unfolding someFrom
 none-from s k = (
-  λ e i m. lt-of-not-le (λ h. rw e at (some-member s (leb k) .1 (i, m, le→leb k i h))),
-  λ h. is-false (someFrom s k) (λ t. let (i, m, l) = some-member s (leb k) .0 t in omega (arith, h i m, leb→le k i l)),
+  λ e i m. lt-of-not-le (λ h. rw e at (some-from s k .1 (i, m, h))),
+  λ h. is-false (someFrom s k) (λ t. let (i, m, l) = some-from s k .0 t in omega (arith, h i m)),
 )
 
 -- each block has a property that follows from one that each has

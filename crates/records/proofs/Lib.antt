@@ -8,5 +8,7 @@ pub mod RoundTrip
 pub mod Stores
 pub mod Steps
 pub mod Walk
+pub mod Next
 pub mod BookChecks
 pub mod MaskChecks
+pub mod Answers

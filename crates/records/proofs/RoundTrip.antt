@@ -11,7 +11,6 @@ use Rattle.model.specs.declared.Block.{Block}
 use Rattle.model.specs.DashedString.{block, Bounded}
 use Rattle.model.specs.Size.{WellFormed, Room, Fits}
 use Rattle.records.specs.Bytes.{Bytes, numberAt, bytesOf}
-use Rattle.records.specs.Check.{lengthField, kind}
 use Rattle.records.specs.Mask.{count, blockFrom, blocksFrom, maskOf, maskRefusal, foreign}
 use Rattle.records.specs.Accepted.{Taken}
 use Rattle.records.specs.Written.{blockBytes, blocksBytes, headBytes, maskBytes}
@@ -58,7 +57,7 @@ blocks-back m (x ∷ xs) h =
 module _ (m : ℕ) (xs : List Block) (h : Fits m xs) where
   -- is read with its number of blocks
   count-back : count (maskBytes xs) ≡ length xs
-  unfolding numberAt bytesOf headBytes maskBytes count
+  unfolding numberAt bytesOf headBytes maskBytes
   count-back = omega arith
 
   -- and with its blocks
@@ -68,7 +67,7 @@ module _ (m : ℕ) (xs : List Block) (h : Fits m xs) where
 
   -- and passes the checks
   taken-back : Taken (maskBytes xs)
-  unfolding numberAt bytesOf headBytes maskBytes lengthField kind
+  unfolding numberAt bytesOf headBytes maskBytes
   taken-back =
       record {
         framed = omega (arith, length-mask xs);

@@ -12,7 +12,7 @@ use lib.Seq.{drop-cons}
 use Rattle.model.specs.declared.Block.{Block}
 use Rattle.model.specs.Size.{uppers}
 use Rattle.records.specs.Check.{some}
-use Rattle.records.specs.Mask.{blockFrom, blocksFrom}
+use Rattle.records.specs.Mask.{count, blockFrom, blocksFrom, maskOf, beyond, foreign}
 
 -- the first block of some, and the rest
 first-block : (bs : List ℕ) (at left : ℕ) → 0 < left → blocksFrom left bs at ≡ blockFrom bs at ∷ blocksFrom (left - 1) bs (at + 12)
@@ -50,6 +50,11 @@ module _ (p : Block → Bool) (bs : List ℕ) (blocks at left : ℕ) (seeking : 
   pub seeking-ends : left ≤ 0 → false ≡ some p (blocksFrom blocks bs 6)
   unfolding some
   seeking-ends h = rw (no-block bs at left h) at (seeking .same)
+
+-- of all the blocks of a mask: check 9
+pub foreign-all : (m : ℕ) (bs : List ℕ) (k : ℕ) → k ≡ count bs → some (beyond m) (blocksFrom k bs 6) ≡ foreign m (maskOf bs)
+unfolding maskOf foreign
+foreign-all m bs k e = rw e
 
 -- a sum: what was added and the upper bounds that are left make the whole
 pub record Summing (bs : List ℕ) (blocks at left sum : ℕ) : Type 0 where

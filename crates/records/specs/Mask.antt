@@ -31,6 +31,10 @@ blocksFrom (suc k) bs i = blockFrom bs i ∷ blocksFrom k bs (i + 12)
 unfoldable pub maskOf : List ℕ → List Block
 maskOf bs = blocksFrom (count bs) bs 6
 
+-- the numbers of a kind 2 record: how many blocks, and the sum of their upper bounds
+abbrev pub maskHead : List ℕ → Mask
+maskHead bs = record { blocks = count bs; uppers = uppers (maskOf bs) }
+
 -- l is above u
 abbrev pub crossed : Block → Bool
 crossed x = ltb (x .upper) (x .lower)
@@ -54,8 +58,12 @@ maskOr x (suc r) = Refused (suc r)
 
 -- a slice of bytes as a mask, or its refusal
 unfoldable pub readMask : List ℕ → MaskOrRefusal
-readMask bs = maskOr (record { blocks = count bs; uppers = uppers (maskOf bs) }) (maskRefusal bs)
+readMask bs = maskOr (maskHead bs) (maskRefusal bs)
+
+-- the block's set has a letter m or above
+abbrev pub beyond : ℕ → Block → Bool
+beyond m x = someFrom (x .base) m
 
 -- check 9: a set with a letter m or above
 unfoldable pub foreign : ℕ → List Block → Bool
-foreign m xs = some (λ x. someFrom (x .base) m) xs
+foreign m xs = some (beyond m) xs

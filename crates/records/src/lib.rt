@@ -1,12 +1,13 @@
 // Kind 1 and kind 2 records of document 01, "Records": read or refused by the first failing check, and a mask written.
 // What the bytes mean stands in specs/.
 ghost use mathlib.Core.Path.{_≡_};
-ghost use Prim.Native.Nat.{_+_, _*_, _≤_};
+ghost use Prim.Native.Nat.{_+_, _*_, _≤_, _<_};
 ghost use lib.ListN.{length};
-ghost use Rattle.model.specs.DashedString.{values};
+ghost use Rattle.model.specs.DashedString.{values, blockAt};
+ghost use Rattle.model.specs.Automaton.{next};
 ghost use Rattle.records.specs.Bytes.{over};
-ghost use Rattle.records.specs.Book.{readBook};
-ghost use Rattle.records.specs.Mask.{readMask};
+ghost use Rattle.records.specs.Book.{tableOf, readBook};
+ghost use Rattle.records.specs.Mask.{count, maskOf, readMask, foreign};
 ghost use Rattle.records.specs.Written.{numbered, maskBytes};
 
 mod automaton;
@@ -15,6 +16,8 @@ mod frame;
 mod moves;
 mod number;
 mod writer;
+
+use model::Block;
 
 // The numbers of a kind 1 record (a book): n, m, the start and the accepting states. Its moves stay in the slice.
 pub struct Book {
@@ -97,6 +100,44 @@ pub fn read_mask(bytes: &[u8]) -> MaskOrRefusal
         return MaskOrRefusal::Refused(8);
     }
     MaskOrRefusal::Accepted(Mask { blocks, uppers })
+}
+
+// The state that state `q` moves to by letter `c`: `states`, the dead state, where the move names none.
+pub fn next_state(states: usize, letters: usize, moves: &[u8], q: usize, c: usize) -> usize
+    requires { ⌜ (q < states) × (c < letters) × (states * letters ≤ length (now moves)) ⌝ }
+    ensures { λ r. ⌜ r ≡ next (tableOf states letters (now (moves .entry))) q c ⌝ }
+{
+    let state = number::wide(moves[q * letters + c]) as usize;
+    if state < states {
+        return state;
+    }
+    states
+}
+
+// Block `i` of a mask, from 0.
+pub fn read_block(bytes: &[u8], i: usize) -> Block
+    requires { ⌜ (i < count (now bytes)) × (6 + 12 * count (now bytes) ≤ length (now bytes)) ⌝ }
+    ensures { λ r. ⌜ r ≡ blockAt (maskOf (now (bytes .entry))) i ⌝ }
+{
+    blocks::block_from(bytes, 6 + 12 * i)
+}
+
+// Check 9: whether some set of a mask has a letter that is `letters` or above.
+pub fn some_foreign(bytes: &[u8], blocks: usize, letters: usize) -> bool
+    requires { ⌜ (blocks ≡ count (now bytes)) × (6 + 12 * blocks ≤ length (now bytes)) ⌝ }
+    ensures { λ r. ⌜ r ≡ foreign letters (maskOf (now (bytes .entry))) ⌝ }
+{
+    let mut at = 6;
+    let mut left = blocks;
+    while 0 < left {
+        let block = blocks::block_from(bytes, at);
+        if bitset::some_from(block.base, letters) {
+            return true;
+        }
+        at += 12;
+        left -= 1;
+    }
+    false
 }
 
 // Writes the first `count` blocks, whose sets and bounds the three slices hold, as a kind 2 record over the first bytes of
