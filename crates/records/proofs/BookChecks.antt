@@ -4,16 +4,42 @@ use mathlib.Core.Path.{_≡_, refl}
 use mathlib.Core.Bool.{Bool, true, false, not}
 use mathlib.Core.List.{List}
 use Prim.Native.Nat.{ℕ, _+_, _*_, _-_, _≤_, _<_}
-use borrow.Author.Tests.{lt-ltb, le-ltb, eq-eqb, ne-eqb}
+use borrow.Author.Tests.{lt-ltb, le-ltb, lt-leb, le-leb, eq-eqb, ne-eqb}
 use lib.Dec.{ltb, eqb}
 use lib.ListN.{length, take, drop}
+use Rattle.model.specs.Set.{someFrom}
 use Rattle.records.specs.declared.Book.{Book}
 use Rattle.records.specs.declared.BookOrRefusal.{BookOrRefusal}
 use Rattle.records.specs.declared.BookOrRefusal.the-variants.{Accepted, Refused}
-use Rattle.records.specs.Check.{refuse, kind, unframed}
-use Rattle.records.specs.Book.{bookHead, movesOf, outOfRange, unnamed, bookChecks, readBook}
+use Rattle.records.specs.Check.{refuse, some, kind, unframed}
+use Rattle.records.specs.Book.{bookHead, movesOf, outside, outOfRange, stray, unnamed, bookChecks, readBook}
 use Rattle.records.proofs.Over.{part-rest}
 
+-- check 4: n decides, or m does
+pub states-out : (b : Book) → outside 63 (b .states) ≡ true → true ≡ outOfRange b
+unfolding outOfRange
+states-out b e = rw e
+
+pub letters-decide : (b : Book) (r : Bool) → outside 63 (b .states) ≡ false → r ≡ outside 64 (b .letters) → r ≡ outOfRange b
+unfolding outOfRange
+letters-decide b r e f = rw (e, f)
+
+-- check 6: the start decides, or an accepting bit, or the moves do
+module _ (b : Book) (moves : List ℕ) where
+  pub start-unnamed : b .states ≤ b .start → true ≡ unnamed b moves
+  unfolding unnamed
+  start-unnamed h = rw (le-leb (b .states) (b .start) h)
+
+  module _ (start : b .start < b .states) where
+    pub bit-unnamed : someFrom (b .accepting) (b .states) ≡ true → true ≡ unnamed b moves
+    unfolding unnamed
+    bit-unnamed e = rw (lt-leb (b .states) (b .start) start, e)
+
+    pub moves-decide : (r : Bool) → someFrom (b .accepting) (b .states) ≡ false → r ≡ some (stray (b .states)) moves → r ≡ unnamed b moves
+    unfolding unnamed
+    moves-decide r e f = rw (lt-leb (b .states) (b .start) start, e, f)
+
+-- the whole chain
 module _ (bs : List ℕ) where
   pub refused-1 : unframed bs ≡ true → Refused 1 ≡ readBook bs
   unfolding refuse bookChecks readBook

@@ -1,8 +1,10 @@
--- Laws of the definitions, and what the code's loops keep; the functions' own proofs stand in folders of their names.
+-- Laws of the definitions, and what the loops keep; the proofs of functions stand in folders of their names. The checker goes
+-- by name, so the samples come first: a wrong definition is refused by a record that it misreads.
+pub mod AllSamples
 pub mod Numbers
 pub mod Offsets
 pub mod Checks
-pub mod Accepted
+pub mod Sound
 pub mod Over
 pub mod RoundTrip
 pub mod Stores

@@ -16,7 +16,7 @@ use Rattle.records.specs.Accepted.{Taken}
 use Rattle.records.specs.Written.{blockBytes, blocksBytes, headBytes, maskBytes}
 use Rattle.records.proofs.Numbers.{number-behind, number-bytes}
 use Rattle.records.proofs.Checks.{each-map}
-use Rattle.records.proofs.Accepted.{taken-mask, Native, none-foreign}
+use Rattle.records.proofs.Sound.{taken-mask, Native, none-foreign}
 
 -- each block is written in 12 bytes
 pub length-blocks-bytes : (xs : List Block) → length (blocksBytes xs) ≡ 12 * length xs

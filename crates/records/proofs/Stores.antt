@@ -27,7 +27,7 @@ pub three-stored : (l l₁ l₂ l₃ : List ℕ) (at j x k y n z : ℕ) → l₁
 three-stored l l₁ l₂ l₃ at j x k y n z e₁ e₂ e₃ =
     let first = sets-append l at (bytesOf j x) (bytesOf k y) in
     let second = sets-append l at (bytesOf j x ++ bytesOf k y) (bytesOf n z) in
-    rw (e₃, e₂, e₁) (rw (length-append, length-bytes, length-bytes, ← rw (length-bytes) at first) at second)
+    rw (e₃, e₂, e₁) (rw (length-append, length-bytes j x, length-bytes k y, ← rw (length-bytes j x) at first) at second)
 
 -- from byte 0 on, a run lies over the first bytes
 pub sets-over : (new old : List ℕ) → length new ≤ length old → sets old 0 new ≡ over new old

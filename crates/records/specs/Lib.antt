@@ -5,3 +5,4 @@ pub mod Book
 pub mod Mask
 pub mod Written
 pub mod Accepted
+pub mod Samples

@@ -12,9 +12,11 @@ ghost use Rattle.records.specs.Written.{numbered, maskBytes};
 
 mod automaton;
 mod blocks;
+mod crossed;
 mod frame;
 mod moves;
 mod number;
+mod uppers;
 mod writer;
 
 use model::Block;
@@ -92,10 +94,10 @@ pub fn read_mask(bytes: &[u8]) -> MaskOrRefusal
     if bytes.len() != 6 + 12 * blocks {
         return MaskOrRefusal::Refused(5);
     }
-    if blocks::some_crossed(bytes, blocks) {
+    if crossed::some_crossed(bytes, blocks) {
         return MaskOrRefusal::Refused(7);
     }
-    let uppers = blocks::sum_uppers(bytes, blocks);
+    let uppers = uppers::sum_uppers(bytes, blocks);
     if 1024 < uppers {
         return MaskOrRefusal::Refused(8);
     }

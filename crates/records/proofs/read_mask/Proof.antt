@@ -10,8 +10,8 @@ use Rattle.records.proofs.read_mask.Statement.{statement}
 use Rattle.records.proofs.read_mask.Tie as tie
 use Rattle.records.proofs.read_mask.Reads as reads
 use Rattle.records.proofs.read_mask.Lts as lts
-use Rattle.records.proofs.blocks.some_crossed.Reads as some-crossed-reads
-use Rattle.records.proofs.blocks.sum_uppers.Reads as sum-uppers-reads
+use Rattle.records.proofs.crossed.some_crossed.Reads as some-crossed-reads
+use Rattle.records.proofs.uppers.sum_uppers.Reads as sum-uppers-reads
 use Rattle.records.proofs.frame.kind.Reads as kind-reads
 use Rattle.records.proofs.frame.unframed.Reads as unframed-reads
 use Rattle.records.proofs.number.read.Reads as read-reads

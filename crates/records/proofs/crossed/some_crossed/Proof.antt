@@ -1,12 +1,12 @@
--- `records::blocks::some_crossed` meets its contract. Assumes nothing.
+-- `records::crossed::some_crossed` meets its contract. Assumes nothing.
 use native.Mathlib.Omega.{arith}
 use borrow.Author.Tests.{lt-ltb, le-ltb}
 use Rattle.records.specs.Mask.{crossed}
 use Rattle.records.proofs.Walk.{Seeking, seeking-starts, seeking-found, seeking-more, seeking-ends}
-use Rattle.records.proofs.blocks.some_crossed.Statement.{statement}
-use Rattle.records.proofs.blocks.some_crossed.Tie as tie
-use Rattle.records.proofs.blocks.some_crossed.Reads as reads
-use Rattle.records.proofs.blocks.some_crossed.Lts as lts
+use Rattle.records.proofs.crossed.some_crossed.Statement.{statement}
+use Rattle.records.proofs.crossed.some_crossed.Tie as tie
+use Rattle.records.proofs.crossed.some_crossed.Reads as reads
+use Rattle.records.proofs.crossed.some_crossed.Lts as lts
 use Rattle.records.proofs.blocks.block_from.Reads as block-from-reads
 
 abbrev Inv-loop : tie.InvT-loop
