@@ -1,7 +1,7 @@
 -- The book checks one after the other: which one decides, by what passed before it.
 -- Assumes nothing.
-use mathlib.Core.Path.{_≡_, refl}
-use mathlib.Core.Bool.{Bool, true, false, not}
+use mathlib.Core.Path.{_≡_}
+use mathlib.Core.Bool.{Bool, true, false}
 use mathlib.Core.List.{List}
 use Prim.Native.Nat.{ℕ, _+_, _*_, _-_, _≤_, _<_}
 use borrow.Author.Tests.{lt-ltb, le-ltb, lt-leb, le-leb, eq-eqb, ne-eqb}
@@ -9,7 +9,6 @@ use lib.Dec.{ltb, eqb}
 use lib.ListN.{length, take, drop}
 use Rattle.model.specs.Set.{someFrom}
 use Rattle.records.specs.declared.Book.{Book}
-use Rattle.records.specs.declared.BookOrRefusal.{BookOrRefusal}
 use Rattle.records.specs.declared.BookOrRefusal.the-variants.{Accepted, Refused}
 use Rattle.records.specs.Check.{refuse, some, kind, unframed}
 use Rattle.records.specs.Book.{bookHead, movesOf, outside, outOfRange, stray, unnamed, bookChecks, readBook}

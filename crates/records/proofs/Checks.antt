@@ -7,7 +7,7 @@ use mathlib.Core.Bool.{Bool, true, false, not, _||_, true≢false}
 use mathlib.Core.List.{List, [], _∷_}
 use native.Mathlib.Nat.{lt-of-not-le, mul-le-mul}
 use native.Mathlib.Omega.{arith}
-use borrow.Author.Tests.{ltb-false}
+use borrow.Author.Tests.{ltb-false, le-ltb, eqb-true, eq-eqb, not-false}
 use lib.Dec.{T, ltb, eqb, eqb·suc-zero}
 use lib.ListN.{length, getD}
 use Rattle.model.specs.declared.Block.{Block}
@@ -56,29 +56,50 @@ none-each p P h (x ∷ xs) = (
 )
 
 -- no number of a list passes the test: none at any place
-pub none-at : (p : ℕ → Bool) (l : List ℕ) → some p l ≡ false → (i : ℕ) → i < length l → p (getD l i 0) ≡ false
+pub none-at : (p : ℕ → Bool) (l : List ℕ) → (some p l ≡ false) ↔ ((i : ℕ) → i < length l → p (getD l i 0) ≡ false)
 unfolding some
-none-at p [] e i h = absurd (omega arith)
-none-at p (x ∷ l) e zero h = neither (p x) (some p l) .0 e .0
-none-at p (x ∷ l) e (suc i) h = none-at p l (neither (p x) (some p l) .0 e .1) i (omega arith)
+none-at p [] = (λ e i h. absurd (omega arith), λ h. refl)
+none-at p (x ∷ l) = (
+  λ e.
+      let (a, b) = neither (p x) (some p l) .0 e in
+      λ i. go (λ i. p (getD (x ∷ l) i 0) ≡ false) a (λ i h. none-at p l .0 b i (omega arith)) i,
+  λ h. neither (p x) (some p l) .1 (h 0 (omega arith), none-at p l .1 (λ i l. h (suc i) (omega arith))),
+)
+  where
+    go : (P : ℕ → Type 0) → P 0 → ((i : ℕ) → suc i < suc (length l) → P (suc i)) → (i : ℕ) → i < suc (length l) → P i
+    go P z s zero h = z
+    go P z s (suc i) h = s i h
 
--- a framed record has at least 4 bytes
-pub framed-long : (bs : List ℕ) → unframed bs ≡ false → 4 ≤ length bs
+-- a framed record has at least 4 bytes, and says how many
+pub framing : (bs : List ℕ) → (unframed bs ≡ false) ↔ ((4 ≤ length bs) × (lengthField bs ≡ length bs))
 unfolding unframed
-framed-long bs e = ltb-false (length bs) 4 (neither (ltb (length bs) 4) (not (eqb (lengthField bs) (length bs))) .0 e .0)
+framing bs = (
+  λ e. let (a, b) = both .0 e in (ltb-false (length bs) 4 a, eqb-true (lengthField bs) (length bs) (not-false _ b)),
+  λ (a, b). both .1 (le-ltb (length bs) 4 a, rw (eq-eqb (lengthField bs) (length bs) b)),
+)
+  where
+    both : (unframed bs ≡ false) ↔ ((ltb (length bs) 4 ≡ false) × (not (eqb (lengthField bs) (length bs)) ≡ false))
+    both = neither (ltb (length bs) 4) (not (eqb (lengthField bs) (length bs)))
 
 -- a number that isn't outside a range is within it
-within : (most x : ℕ) → outside most x ≡ false → (0 < x) × (x ≤ most)
-within most zero e = absurd (true≢false e)
-within most (suc x) e = (omega arith, ltb-false most (suc x) (rw eqb·suc-zero at e))
+within : (most x : ℕ) → (outside most x ≡ false) ↔ ((0 < x) × (x ≤ most))
+within most zero = (λ e. absurd (true≢false e), λ h. absurd (omega arith))
+within most (suc x) = (
+  λ e. (omega arith, ltb-false most (suc x) (rw eqb·suc-zero at e)),
+  λ h. rw (eqb·suc-zero x, le-ltb most (suc x) (h .1)),
+)
 
 -- n and m are in their ranges
-pub in-range : (b : Book) → outOfRange b ≡ false → ((0 < b .states) × (b .states ≤ 63)) × ((0 < b .letters) × (b .letters ≤ 64))
+pub in-range : (b : Book) → (outOfRange b ≡ false) ↔ (((0 < b .states) × (b .states ≤ 63)) × ((0 < b .letters) × (b .letters ≤ 64)))
 unfolding outOfRange
-in-range b e =
-    let (n, m) = neither (outside 63 (b .states)) (outside 64 (b .letters)) .0 e in
-    (within 63 (b .states) n, within 64 (b .letters) m)
+in-range b = (
+  λ e. let (n, m) = both .0 e in (within 63 (b .states) .0 n, within 64 (b .letters) .0 m),
+  λ (n, m). both .1 (within 63 (b .states) .1 n, within 64 (b .letters) .1 m),
+)
+  where
+    both : (outOfRange b ≡ false) ↔ ((outside 63 (b .states) ≡ false) × (outside 64 (b .letters) ≡ false))
+    both = neither (outside 63 (b .states)) (outside 64 (b .letters))
 
 -- so there are few moves
 pub few-moves : (b : Book) → outOfRange b ≡ false → b .states * b .letters ≤ 63 * 64
-few-moves b e = let (n, m) = in-range b e in mul-le-mul (n .1) (m .1)
+few-moves b e = let (n, m) = in-range b .0 e in mul-le-mul (n .1) (m .1)

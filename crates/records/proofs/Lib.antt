@@ -4,7 +4,7 @@ pub mod AllSamples
 pub mod Numbers
 pub mod Offsets
 pub mod Checks
-pub mod Sound
+pub mod WellFormed
 pub mod Over
 pub mod RoundTrip
 pub mod Stores

@@ -1,14 +1,13 @@
 -- The mask checks one after the other: which one decides, by what passed before it.
 -- Assumes nothing.
-use mathlib.Core.Path.{_≡_, refl}
-use mathlib.Core.Bool.{Bool, true, false}
+use mathlib.Core.Path.{_≡_}
+use mathlib.Core.Bool.{true, false}
 use mathlib.Core.List.{List}
 use Prim.Native.Nat.{ℕ, _+_, _*_, _≤_, _<_}
 use borrow.Author.Tests.{lt-ltb, le-ltb, eq-eqb, ne-eqb}
 use lib.Dec.{ltb, eqb}
 use lib.ListN.{length}
 use Rattle.model.specs.Size.{uppers}
-use Rattle.records.specs.declared.MaskOrRefusal.{MaskOrRefusal}
 use Rattle.records.specs.declared.MaskOrRefusal.the-variants.{Accepted, Refused}
 use Rattle.records.specs.Check.{refuse, some, kind, unframed}
 use Rattle.records.specs.Mask.{count, blocksFrom, maskOf, crossed, maskRefusal, readMask}

@@ -12,11 +12,11 @@ use Rattle.model.specs.DashedString.{block, Bounded}
 use Rattle.model.specs.Size.{WellFormed, Room, Fits}
 use Rattle.records.specs.Bytes.{Bytes, numberAt, bytesOf}
 use Rattle.records.specs.Mask.{count, blockFrom, blocksFrom, maskOf, maskRefusal, foreign}
-use Rattle.records.specs.Accepted.{Taken}
+use Rattle.records.specs.WellFormed.{MaskRecord}
 use Rattle.records.specs.Written.{blockBytes, blocksBytes, headBytes, maskBytes}
 use Rattle.records.proofs.Numbers.{number-behind, number-bytes}
 use Rattle.records.proofs.Checks.{each-map}
-use Rattle.records.proofs.Sound.{taken-mask, Native, none-foreign}
+use Rattle.records.proofs.WellFormed.{record-mask, Native, none-foreign}
 
 -- each block is written in 12 bytes
 pub length-blocks-bytes : (xs : List Block) → length (blocksBytes xs) ≡ 12 * length xs
@@ -66,9 +66,9 @@ module _ (m : ℕ) (xs : List Block) (h : Fits m xs) where
   mask-back = rw count-back (blocks-behind (length xs) (headBytes (length xs)) (blocksBytes xs) 0 ∙ blocks-back m xs (h .room))
 
   -- and passes the checks
-  taken-back : Taken (maskBytes xs)
+  record-back : MaskRecord (maskBytes xs)
   unfolding numberAt bytesOf headBytes maskBytes
-  taken-back =
+  record-back =
       record {
         framed = omega (arith, length-mask xs);
         kind = refl;
@@ -82,7 +82,7 @@ module _ (m : ℕ) (xs : List Block) (h : Fits m xs) where
 pub reads-back : (m : ℕ) (xs : List Block) → Fits m xs
     → (maskRefusal (maskBytes xs) ≡ 0) × (maskOf (maskBytes xs) ≡ xs) × (foreign m (maskOf (maskBytes xs)) ≡ false)
 reads-back m xs h = (
-  taken-mask (maskBytes xs) (taken-back m xs h),
+  record-mask (maskBytes xs) (record-back m xs h),
   mask-back m xs h,
   rw (mask-back m xs h) (none-foreign m xs .1 (each-map (WellFormed m) (Native m) (λ x f. f .letters) xs (h .room .each))),
 )

@@ -4,5 +4,5 @@ pub mod Check
 pub mod Book
 pub mod Mask
 pub mod Written
-pub mod Accepted
+pub mod WellFormed
 pub mod Samples

@@ -6,9 +6,6 @@ use Rattle.records.proofs.Next.{move-inside, next-names, next-dead}
 use borrow.Author.Needs.{needs}
 use Rattle.records.proofs.next_state.Statement.{statement}
 use Rattle.records.proofs.next_state.Tie as tie
-use Rattle.records.proofs.next_state.Reads as reads
-use Rattle.records.proofs.next_state.Lts as lts
-use Rattle.records.proofs.number.wide.Reads as wide-reads
 
 -- the move's byte is there
 inside : (c : tie.After-shared-slice-known) → c .before .args .q * c .before .args .letters + c .before .args .c < length (c .before .args .moves .now)

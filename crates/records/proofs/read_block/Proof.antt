@@ -6,9 +6,6 @@ use Rattle.records.proofs.Offsets.{block-at}
 use borrow.Author.Needs.{needs}
 use Rattle.records.proofs.read_block.Statement.{statement}
 use Rattle.records.proofs.read_block.Tie as tie
-use Rattle.records.proofs.read_block.Reads as reads
-use Rattle.records.proofs.read_block.Lts as lts
-use Rattle.records.proofs.blocks.block_from.Reads as block-from-reads
 
 mul-block-from : tie.Need-mul-block-from
 mul-block-from c = search needs

@@ -4,18 +4,11 @@ use mathlib.Core.Bool.{false}
 use native.Mathlib.Omega.{arith}
 use Rattle.records.specs.Check.{unframed}
 use Rattle.records.specs.Book.{outOfRange}
-use Rattle.records.proofs.Checks.{framed-long, few-moves}
+use Rattle.records.proofs.Checks.{framing, few-moves}
 use Rattle.records.proofs.BookChecks.{refused-1, refused-2, refused-3, refused-4, refused-5, refused-6, accepted}
 use borrow.Author.Needs.{needs}
 use Rattle.records.proofs.read_book.Statement.{statement}
 use Rattle.records.proofs.read_book.Tie as tie
-use Rattle.records.proofs.read_book.Reads as reads
-use Rattle.records.proofs.read_book.Lts as lts
-use Rattle.records.proofs.automaton.head.Reads as head-reads
-use Rattle.records.proofs.automaton.out_of_range.Reads as out-of-range-reads
-use Rattle.records.proofs.automaton.unnamed.Reads as unnamed-reads
-use Rattle.records.proofs.frame.kind.Reads as kind-reads
-use Rattle.records.proofs.frame.unframed.Reads as unframed-reads
 
 -- check 1 passed
 framed : (c : tie.Else1) → unframed (c .before .before .before .args .bytes .now) ≡ false
@@ -32,7 +25,7 @@ returns : tie.Need-returns
 returns c = refused-1 _ (sym (c .before .unframed .ensures) ∙ c .if1 .taken)
 
 kind-requires : tie.Need-kind-requires
-kind-requires c κs = framed-long (c .before .before .before .args .bytes .now) (framed c)
+kind-requires c κs = framing (c .before .before .before .args .bytes .now) .0 (framed c) .0
 
 returns-2 : tie.Need-returns-2
 returns-2 c = refused-2 _ (framed (c .before .before)) (λ e. omega arith)

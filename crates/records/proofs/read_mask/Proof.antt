@@ -3,18 +3,11 @@ use mathlib.Core.Path.{_≡_, _∙_, sym}
 use mathlib.Core.Bool.{false}
 use native.Mathlib.Omega.{arith}
 use Rattle.records.specs.Check.{unframed}
-use Rattle.records.proofs.Checks.{framed-long}
+use Rattle.records.proofs.Checks.{framing}
 use Rattle.records.proofs.MaskChecks.{refused-1, refused-2, refused-3, refused-4, refused-5, refused-7, refused-8, accepted}
 use borrow.Author.Needs.{needs}
 use Rattle.records.proofs.read_mask.Statement.{statement}
 use Rattle.records.proofs.read_mask.Tie as tie
-use Rattle.records.proofs.read_mask.Reads as reads
-use Rattle.records.proofs.read_mask.Lts as lts
-use Rattle.records.proofs.crossed.some_crossed.Reads as some-crossed-reads
-use Rattle.records.proofs.uppers.sum_uppers.Reads as sum-uppers-reads
-use Rattle.records.proofs.frame.kind.Reads as kind-reads
-use Rattle.records.proofs.frame.unframed.Reads as unframed-reads
-use Rattle.records.proofs.number.read.Reads as read-reads
 
 -- check 1 passed
 framed : (c : tie.Else1) → unframed (c .before .before .before .args .bytes .now) ≡ false
@@ -27,7 +20,7 @@ returns : tie.Need-returns
 returns c = refused-1 _ (sym (c .before .unframed .ensures) ∙ c .if1 .taken)
 
 kind-requires : tie.Need-kind-requires
-kind-requires c κs = framed-long (c .before .before .before .args .bytes .now) (framed c)
+kind-requires c κs = framing (c .before .before .before .args .bytes .now) .0 (framed c) .0
 
 returns-2 : tie.Need-returns-2
 returns-2 c = refused-2 _ (framed (c .before .before)) (λ e. omega arith)

@@ -6,10 +6,6 @@ use Rattle.records.specs.Mask.{beyond}
 use Rattle.records.proofs.Walk.{Seeking, seeking-starts, seeking-found, seeking-more, seeking-ends, foreign-all}
 use Rattle.records.proofs.some_foreign.Statement.{statement}
 use Rattle.records.proofs.some_foreign.Tie as tie
-use Rattle.records.proofs.some_foreign.Reads as reads
-use Rattle.records.proofs.some_foreign.Lts as lts
-use Rattle.bitset.proofs.some_from.Reads as some-from-reads
-use Rattle.records.proofs.blocks.block_from.Reads as block-from-reads
 
 abbrev Inv-loop : tie.InvT-loop
 Inv-loop bytes blocks letters at₀ left₀ at left = Seeking (beyond letters) bytes blocks at left

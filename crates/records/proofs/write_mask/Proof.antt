@@ -6,10 +6,6 @@ use Rattle.records.proofs.Stores.{three-stored, mask-stored}
 use borrow.Author.Needs.{needs}
 use Rattle.records.proofs.write_mask.Statement.{statement}
 use Rattle.records.proofs.write_mask.Tie as tie
-use Rattle.records.proofs.write_mask.Reads as reads
-use Rattle.records.proofs.write_mask.Lts as lts
-use Rattle.records.proofs.number.write.Reads as write-reads
-use Rattle.records.proofs.writer.write_blocks.Reads as write-blocks-reads
 
 mul-size : tie.Need-mul-size
 mul-size c = search needs

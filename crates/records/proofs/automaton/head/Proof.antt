@@ -3,10 +3,6 @@ use Rattle.records.specs.Book.{bookHead}
 use borrow.Author.Needs.{needs}
 use Rattle.records.proofs.automaton.head.Statement.{statement}
 use Rattle.records.proofs.automaton.head.Tie as tie
-use Rattle.records.proofs.automaton.head.Reads as reads
-use Rattle.records.proofs.automaton.head.Lts as lts
-use Rattle.records.proofs.number.read.Reads as read-reads
-use Rattle.records.proofs.number.wide.Reads as wide-reads
 
 shared-slice-read-wide : tie.Need-shared-slice-read-wide
 shared-slice-read-wide c = search needs

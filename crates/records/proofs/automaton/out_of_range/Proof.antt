@@ -4,9 +4,6 @@ use borrow.Author.Needs.{needs}
 use Rattle.records.proofs.BookChecks.{states-out, letters-decide}
 use Rattle.records.proofs.automaton.out_of_range.Statement.{statement}
 use Rattle.records.proofs.automaton.out_of_range.Tie as tie
-use Rattle.records.proofs.automaton.out_of_range.Reads as reads
-use Rattle.records.proofs.automaton.out_of_range.Lts as lts
-use Rattle.records.proofs.automaton.outside.Reads as outside-reads
 
 outside-requires : tie.Need-outside-requires
 outside-requires c κs = search needs

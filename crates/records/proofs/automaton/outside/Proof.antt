@@ -2,8 +2,6 @@
 use borrow.Author.Tests.{eq-eqb, ne-eqb}
 use Rattle.records.proofs.automaton.outside.Statement.{statement}
 use Rattle.records.proofs.automaton.outside.Tie as tie
-use Rattle.records.proofs.automaton.outside.Reads as reads
-use Rattle.records.proofs.automaton.outside.Lts as lts
 
 returns : tie.Need-returns
 returns c = rw (eq-eqb _ _ (c .if1 .taken))

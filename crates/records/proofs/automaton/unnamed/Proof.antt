@@ -5,10 +5,6 @@ use borrow.Author.Needs.{needs}
 use Rattle.records.proofs.BookChecks.{start-unnamed, bit-unnamed, moves-decide}
 use Rattle.records.proofs.automaton.unnamed.Statement.{statement}
 use Rattle.records.proofs.automaton.unnamed.Tie as tie
-use Rattle.records.proofs.automaton.unnamed.Reads as reads
-use Rattle.records.proofs.automaton.unnamed.Lts as lts
-use Rattle.bitset.proofs.some_from.Reads as some-from-reads
-use Rattle.records.proofs.moves.some_stray.Reads as some-stray-reads
 
 returns : tie.Need-returns
 returns c = start-unnamed _ _ (omega arith)

@@ -3,9 +3,6 @@ use Rattle.records.specs.Mask.{blockFrom}
 use borrow.Author.Needs.{needs}
 use Rattle.records.proofs.blocks.block_from.Statement.{statement}
 use Rattle.records.proofs.blocks.block_from.Tie as tie
-use Rattle.records.proofs.blocks.block_from.Reads as reads
-use Rattle.records.proofs.blocks.block_from.Lts as lts
-use Rattle.records.proofs.number.read.Reads as read-reads
 
 read-requires : tie.Need-read-requires
 read-requires c κs = search needs

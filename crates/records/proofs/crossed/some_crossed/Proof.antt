@@ -5,9 +5,6 @@ use Rattle.records.specs.Mask.{crossed}
 use Rattle.records.proofs.Walk.{Seeking, seeking-starts, seeking-found, seeking-more, seeking-ends}
 use Rattle.records.proofs.crossed.some_crossed.Statement.{statement}
 use Rattle.records.proofs.crossed.some_crossed.Tie as tie
-use Rattle.records.proofs.crossed.some_crossed.Reads as reads
-use Rattle.records.proofs.crossed.some_crossed.Lts as lts
-use Rattle.records.proofs.blocks.block_from.Reads as block-from-reads
 
 abbrev Inv-loop : tie.InvT-loop
 Inv-loop bytes blocks at₀ left₀ at left = Seeking crossed bytes blocks at left

@@ -4,9 +4,6 @@ use Rattle.records.specs.Check.{unframed}
 use borrow.Author.Needs.{needs}
 use Rattle.records.proofs.frame.unframed.Statement.{statement}
 use Rattle.records.proofs.frame.unframed.Tie as tie
-use Rattle.records.proofs.frame.unframed.Reads as reads
-use Rattle.records.proofs.frame.unframed.Lts as lts
-use Rattle.records.proofs.number.read.Reads as read-reads
 
 returns : tie.Need-returns
 unfolding unframed

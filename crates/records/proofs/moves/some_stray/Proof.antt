@@ -8,9 +8,6 @@ use Rattle.records.specs.Book.{stray}
 use Rattle.records.proofs.Walk.{Passing, passing-starts, passing-found, passing-more, passing-ends}
 use Rattle.records.proofs.moves.some_stray.Statement.{statement}
 use Rattle.records.proofs.moves.some_stray.Tie as tie
-use Rattle.records.proofs.moves.some_stray.Reads as reads
-use Rattle.records.proofs.moves.some_stray.Lts as lts
-use Rattle.records.proofs.moves.stray.Reads as stray-reads
 
 abbrev Inv-loop : tie.InvT-loop
 Inv-loop states moves i₀ i = Passing (stray states) moves i

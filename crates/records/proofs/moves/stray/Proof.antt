@@ -3,9 +3,6 @@ use borrow.Author.Tests.{lt-leb, le-leb}
 use borrow.Author.Needs.{needs}
 use Rattle.records.proofs.moves.stray.Statement.{statement}
 use Rattle.records.proofs.moves.stray.Tie as tie
-use Rattle.records.proofs.moves.stray.Reads as reads
-use Rattle.records.proofs.moves.stray.Lts as lts
-use Rattle.records.proofs.number.wide.Reads as wide-reads
 
 wide-requires : tie.Need-wide-requires
 wide-requires c κs = search needs

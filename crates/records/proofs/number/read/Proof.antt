@@ -4,9 +4,6 @@ use borrow.Author.Needs.{needs}
 use Rattle.records.proofs.Steps.{Reading, reading-starts, reading-fits, reading-more, reading-ends}
 use Rattle.records.proofs.number.read.Statement.{statement}
 use Rattle.records.proofs.number.read.Tie as tie
-use Rattle.records.proofs.number.read.Reads as reads
-use Rattle.records.proofs.number.read.Lts as lts
-use Rattle.records.proofs.number.wide.Reads as wide-reads
 
 abbrev Inv-loop : tie.InvT-loop
 Inv-loop bytes at width number₀ left₀ number left = Reading bytes at width number left

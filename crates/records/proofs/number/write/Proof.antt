@@ -4,8 +4,6 @@ use native.Mathlib.Omega.{arith}
 use Rattle.records.proofs.Steps.{Writing, writing-starts, writing-more, writing-ends}
 use Rattle.records.proofs.number.write.Statement.{statement}
 use Rattle.records.proofs.number.write.Tie as tie
-use Rattle.records.proofs.number.write.Reads as reads
-use Rattle.records.proofs.number.write.Lts as lts
 
 abbrev Inv-loop : tie.InvT-loop
 Inv-loop out₀ at width number rest₀ done₀ out rest done = Writing out₀ at width number out rest done

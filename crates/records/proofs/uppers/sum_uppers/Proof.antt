@@ -3,9 +3,6 @@ use native.Mathlib.Omega.{arith}
 use Rattle.records.proofs.Walk.{Summing, summing-starts, summing-more, summing-ends}
 use Rattle.records.proofs.uppers.sum_uppers.Statement.{statement}
 use Rattle.records.proofs.uppers.sum_uppers.Tie as tie
-use Rattle.records.proofs.uppers.sum_uppers.Reads as reads
-use Rattle.records.proofs.uppers.sum_uppers.Lts as lts
-use Rattle.records.proofs.blocks.block_from.Reads as block-from-reads
 
 abbrev Inv-loop : tie.InvT-loop
 Inv-loop bytes blocks at₀ left₀ sum₀ at left sum = Summing bytes blocks at left sum

@@ -4,9 +4,6 @@ use Rattle.records.proofs.Stores.{three-stored}
 use borrow.Author.Needs.{needs}
 use Rattle.records.proofs.writer.write_block.Statement.{statement}
 use Rattle.records.proofs.writer.write_block.Tie as tie
-use Rattle.records.proofs.writer.write_block.Reads as reads
-use Rattle.records.proofs.writer.write_block.Lts as lts
-use Rattle.records.proofs.number.write.Reads as write-reads
 
 write-requires : tie.Need-write-requires
 write-requires c κs = search needs

@@ -5,9 +5,6 @@ use Rattle.records.specs.Written.{numbered}
 use Rattle.records.proofs.Stores.{Filling, filling-starts, filling-more, filling-ends}
 use Rattle.records.proofs.writer.write_blocks.Statement.{statement}
 use Rattle.records.proofs.writer.write_blocks.Tie as tie
-use Rattle.records.proofs.writer.write_blocks.Reads as reads
-use Rattle.records.proofs.writer.write_blocks.Lts as lts
-use Rattle.records.proofs.writer.write_block.Reads as write-block-reads
 
 abbrev Inv-loop : tie.InvT-loop
 Inv-loop bases lowers uppers count out₀ i₀ out i = Filling (numbered bases lowers uppers) count out₀ out i

@@ -1,4 +1,4 @@
--- What the checks leave of a book and of a mask (01, "The four operations and when they turn back").
+-- What the checks leave (01, "The four operations and when they turn back"): sound automata and well-formed records.
 use Prim.Native.Nat.{ℕ, _+_, _*_, _≤_, _<_}
 use mathlib.Core.Path.{_≡_}
 use mathlib.Core.Logic.{_⊎_}
@@ -9,9 +9,10 @@ use Rattle.model.specs.DashedString.{Each, Bounded}
 use Rattle.model.specs.Automaton.{Dfa}
 use Rattle.model.specs.Size.{uppers}
 use Rattle.records.specs.Check.{lengthField, kind}
+use Rattle.records.specs.Book.{bookHead, bookOf}
 use Rattle.records.specs.Mask.{count, maskOf}
 
--- an automaton that the book checks leave
+-- an automaton that passes checks 4 to 6
 pub record Sound (b : Dfa) : Type 0 where
   -- check 4: at least one state
   pub some-state : 0 < b .table .states
@@ -30,15 +31,26 @@ pub record Sound (b : Dfa) : Type 0 where
   -- check 6: each move names a state, or is 255
   pub named : (i : ℕ) → i < length (b .table .moves) → (getD (b .table .moves) i 0 < b .table .states) ⊎ (getD (b .table .moves) i 0 ≡ 255)
 
--- a kind 2 record that the mask checks leave
-pub record Taken (bs : List ℕ) : Type 0 where
+-- a well-formed kind 1 record
+pub record BookRecord (bs : List ℕ) : Type 0 where
+  -- check 1: the length field is the number of bytes
+  pub framed : lengthField bs ≡ length bs
+  -- check 2: a book
+  pub kind : kind bs ≡ 1
+  -- checks 3 and 5: the bytes of its head and moves, and no others
+  pub size : length bs ≡ 15 + bookHead bs .states * bookHead bs .letters
+  -- checks 4 and 6
+  pub sound : Sound (bookOf bs)
+
+-- a well-formed kind 2 record
+pub record MaskRecord (bs : List ℕ) : Type 0 where
   -- check 1: the length field is the number of bytes
   pub framed : lengthField bs ≡ length bs
   -- check 2: a mask
   pub kind : kind bs ≡ 2
   -- check 4: at most 1,024 blocks
   pub few : count bs ≤ 1024
-  -- check 5: the bytes of its head and blocks, and no others
+  -- checks 3 and 5: the bytes of its head and blocks, and no others
   pub size : length bs ≡ 6 + 12 * count bs
   -- check 7: l ≤ u
   pub bounds : Each Bounded (maskOf bs)

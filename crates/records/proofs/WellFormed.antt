@@ -1,13 +1,13 @@
--- What the checks leave: a sound automaton, and a mask that fits a record (01, "The four operations").
+-- What the checks leave: a sound automaton, and a mask that fits a record (01, "The four operations"). Nothing else is refused.
 -- Assumes nothing.
 use Prim.Native.Nat.{ℕ, zero, suc, _+_, _*_, _^_, _≤_, _<_}
 use mathlib.Core.Path.{_≡_, refl}
-use mathlib.Core.Logic.{_↔_, _⊎_, inl, inr}
+use mathlib.Core.Logic.{_↔_, _⊎_, inl, inr, ⊎-elim}
 use mathlib.Core.Bool.{Bool, true, false, not, _&&_, _||_}
 use mathlib.Core.List.{List, [], _∷_}
 use native.Mathlib.Omega.{arith}
-use borrow.Author.Tests.{le-ltb, eq-eqb, ltb-false, leb-false, eqb-true, not-false}
-use lib.Dec.{ltb, leb, eqb}
+use borrow.Author.Tests.{le-ltb, lt-leb, eq-eqb, ltb-false, leb-false, eqb-true, not-false}
+use lib.Dec.{leb, eqb}
 use lib.ListN.{length, length-drop}
 use Rattle.model.specs.declared.Block.{Block}
 use Rattle.model.specs.Set.{Member, someFrom}
@@ -15,49 +15,91 @@ use Rattle.model.specs.DashedString.{Each, Bounded}
 use Rattle.model.specs.Automaton.{Dfa}
 use Rattle.model.specs.Legal.{Checked}
 use Rattle.model.specs.Size.{uppers, WellFormed, Fits}
+use Rattle.records.specs.declared.Book.{Book}
 use Rattle.records.specs.Bytes.{Bytes}
-use Rattle.records.specs.Check.{refuse, some, lengthField, kind, unframed}
+use Rattle.records.specs.Check.{refuse, some, kind}
 use Rattle.records.specs.Book.{bookHead, movesOf, bookOf, stray, unnamed, bookChecks, bookRefusal}
 use Rattle.records.specs.Mask.{count, blockFrom, blocksFrom, maskOf, crossed, maskRefusal, beyond, foreign}
-use Rattle.records.specs.Accepted.{Sound, Taken}
+use Rattle.records.specs.WellFormed.{Sound, BookRecord, MaskRecord}
 use Rattle.records.proofs.Numbers.{number-lt}
 use Rattle.records.proofs.Offsets.{length-blocks}
-use Rattle.records.proofs.Checks.{peel, neither, in-range, none-from, none-each, none-at, each-map}
+use Rattle.records.proofs.Checks.{peel, neither, framing, in-range, none-from, none-each, none-at, each-map}
 
 -- ---- books
 
 -- a move that isn't stray names a state, or is 255
-named : (n r : ℕ) → stray n r ≡ false → (r < n) ⊎ (r ≡ 255)
-named n r e = go (leb n r) refl e
+named : (n r : ℕ) → (stray n r ≡ false) ↔ ((r < n) ⊎ (r ≡ 255))
+named n r = (λ e. go (leb n r) refl e, λ h. ⊎-elim (λ l. rw (lt-leb n r l)) (λ e. rw (eq-eqb r 255 e) (off (leb n r))) h)
   where
     go : (t : Bool) → leb n r ≡ t → t && not (eqb r 255) ≡ false → (r < n) ⊎ (r ≡ 255)
     go true a b = inr (eqb-true r 255 (not-false (eqb r 255) b))
     go false a b = inl (leb-false n r a)
 
--- the automaton of a book that is not refused is sound
-pub book-sound : (bs : List ℕ) → bookRefusal bs ≡ 0 → Sound (bookOf bs)
-unfolding movesOf unnamed bookChecks
-book-sound bs h =
+    off : (t : Bool) → t && false ≡ false
+    off true = refl
+    off false = refl
+
+-- check 6 leaves exactly these
+naming : (b : Book) (moves : List ℕ) → (unnamed b moves ≡ false)
+    ↔ (((leb (b .states) (b .start) ≡ false) × (someFrom (b .accepting) (b .states) ≡ false)) × (some (stray (b .states)) moves ≡ false))
+unfolding unnamed
+naming b moves = (λ e. let (h, k) = outer .0 e in (inner .0 h, k), λ (h, k). outer .1 (inner .1 h, k))
+  where
+    inner : (leb (b .states) (b .start) || someFrom (b .accepting) (b .states) ≡ false)
+        ↔ ((leb (b .states) (b .start) ≡ false) × (someFrom (b .accepting) (b .states) ≡ false))
+    inner = neither (leb (b .states) (b .start)) (someFrom (b .accepting) (b .states))
+
+    outer : (unnamed b moves ≡ false) ↔ ((leb (b .states) (b .start) || someFrom (b .accepting) (b .states) ≡ false) × (some (stray (b .states)) moves ≡ false))
+    outer = neither (leb (b .states) (b .start) || someFrom (b .accepting) (b .states)) (some (stray (b .states)) moves)
+
+-- what is not refused as a book is a well-formed record
+pub book-record : (bs : List ℕ) → bookRefusal bs ≡ 0 → BookRecord bs
+unfolding movesOf bookChecks
+book-record bs h =
     let b = bookHead bs in
-    let (_, h) = peel _ _ _ h in
-    let (_, h) = peel _ _ _ h in
+    let (frame, h) = peel _ _ _ h in
+    let (one, h) = peel _ _ _ h in
     let (_, h) = peel _ _ _ h in
     let (range, h) = peel _ _ _ h in
-    let (size, h) = peel _ _ _ h in
+    let (exact, h) = peel _ _ _ h in
     let (names, _) = peel _ _ _ h in
-    let (n, m) = in-range b range in
-    let (ends, moves) = neither (leb (b .states) (b .start) || someFrom (b .accepting) (b .states)) (some (stray (b .states)) (movesOf bs)) .0 names in
-    let (start, accepting) = neither (leb (b .states) (b .start)) (someFrom (b .accepting) (b .states)) .0 ends in
+    let (n, m) = in-range b .0 range in
+    let ((start, accepting), moves) = naming b (movesOf bs) .0 names in
+    let size = eqb-true (length bs) (15 + b .states * b .letters) (not-false _ exact) in
     record {
-      some-state = n .0;
-      states = omega (arith, n .1);
-      some-letter = m .0;
-      letters = m .1;
-      moves = omega (arith, length-drop 15 bs, eqb-true (length bs) (15 + b .states * b .letters) (not-false _ size));
-      start = leb-false (b .states) (b .start) start;
-      accepting = none-from (b .accepting) (b .states) .0 accepting;
-      named = λ i l. named (b .states) _ (none-at (stray (b .states)) (movesOf bs) moves i l);
+      framed = framing bs .0 frame .1;
+      kind = eqb-true (kind bs) 1 (not-false _ one);
+      size = size;
+      sound = record {
+        some-state = n .0;
+        states = omega (arith, n .1);
+        some-letter = m .0;
+        letters = m .1;
+        moves = omega (arith, length-drop 15 bs, size);
+        start = leb-false (b .states) (b .start) start;
+        accepting = none-from (b .accepting) (b .states) .0 accepting;
+        named = λ i l. named (b .states) _ .0 (none-at (stray (b .states)) (movesOf bs) .0 moves i l);
+      };
     }
+
+-- and no well-formed record is refused
+pub record-book : (bs : List ℕ) → BookRecord bs → bookRefusal bs ≡ 0
+unfolding movesOf bookChecks refuse
+record-book bs t =
+    let b = bookHead bs in
+    let s = t .sound in
+    let long : 15 ≤ length bs = omega (arith, t .size) in
+    simp (
+      framing bs .1 (omega arith, t .framed),
+      eq-eqb (kind bs) 1 (t .kind),
+      le-ltb (length bs) 15 long,
+      in-range b .1 ((s .some-state, omega (arith, s .states)), (s .some-letter, s .letters)),
+      eq-eqb (length bs) (15 + b .states * b .letters) (t .size),
+      naming b (movesOf bs) .1 (
+        (lt-leb (b .states) (b .start) (s .start), none-from (b .accepting) (b .states) .1 (s .accepting)),
+        none-at (stray (b .states)) (movesOf bs) .1 (λ i l. named (b .states) _ .1 (s .named i l)),
+      ),
+    )
 
 -- the dead state is not an accepting one
 pub dead-accepts-nothing : (b : Dfa) → Sound b → ¬ Member (b .table .states) (b .accepting)
@@ -69,10 +111,10 @@ dead-accepts-nothing b s m = omega (arith, s .accepting (b .table .states) m)
 uncrossed : (xs : List Block) → (some crossed xs ≡ false) ↔ Each Bounded xs
 uncrossed xs = none-each crossed Bounded (λ x. (ltb-false (x .upper) (x .lower), le-ltb (x .upper) (x .lower))) xs
 
--- what is not refused as a mask is one of these
-pub mask-taken : (bs : List ℕ) → maskRefusal bs ≡ 0 → Taken bs
-unfolding maskRefusal unframed
-mask-taken bs h =
+-- what is not refused as a mask is a well-formed record
+pub mask-record : (bs : List ℕ) → maskRefusal bs ≡ 0 → MaskRecord bs
+unfolding maskRefusal
+mask-record bs h =
     let (frame, h) = peel _ _ _ h in
     let (two, h) = peel _ _ _ h in
     let (_, h) = peel _ _ _ h in
@@ -81,7 +123,7 @@ mask-taken bs h =
     let (bounds, h) = peel _ _ _ h in
     let (sum, _) = peel _ _ _ h in
     record {
-      framed = eqb-true (lengthField bs) (length bs) (not-false _ (neither (ltb (length bs) 4) (not (eqb (lengthField bs) (length bs))) .0 frame .1));
+      framed = framing bs .0 frame .1;
       kind = eqb-true (kind bs) 2 (not-false _ two);
       few = ltb-false 1024 (count bs) few;
       size = eqb-true (length bs) (6 + 12 * count bs) (not-false _ size);
@@ -89,13 +131,12 @@ mask-taken bs h =
       sum = ltb-false 1024 (uppers (maskOf bs)) sum;
     }
 
--- and none of these is refused
-pub taken-mask : (bs : List ℕ) → Taken bs → maskRefusal bs ≡ 0
-unfolding maskRefusal unframed refuse
-taken-mask bs t =
+-- and no well-formed record is refused
+pub record-mask : (bs : List ℕ) → MaskRecord bs → maskRefusal bs ≡ 0
+unfolding maskRefusal refuse
+record-mask bs t =
     simp (
-      le-ltb (length bs) 4 (omega arith),
-      eq-eqb (lengthField bs) (length bs) (t .framed),
+      framing bs .1 (omega arith, t .framed),
       eq-eqb (kind bs) 2 (t .kind),
       le-ltb (length bs) 6 (omega arith),
       le-ltb 1024 (count bs) (t .few),
@@ -106,12 +147,12 @@ taken-mask bs t =
 
 -- l ≤ u in each block of a mask that is not refused
 pub mask-bounded : (bs : List ℕ) → maskRefusal bs ≡ 0 → Each Bounded (maskOf bs)
-mask-bounded bs h = mask-taken bs h .bounds
+mask-bounded bs h = mask-record bs h .bounds
 
 -- the hypotheses of demand 3, for a book and a mask that are not refused
 pub checked : (bs ms : List ℕ) → bookRefusal bs ≡ 0 → maskRefusal ms ≡ 0 → Checked (bookOf bs) (maskOf ms)
 checked bs ms h l =
-    let s = book-sound bs h in
+    let s = book-record bs h .sound in
     record { states = s .states; start = s .start; bounds = mask-bounded ms l }
 
 -- the set of a block is 8 bytes
@@ -138,7 +179,7 @@ formed m (x ∷ xs) (h, bounds) (k, bytes) (l, letters) = (record { bounds = h; 
 pub mask-fits : (m : ℕ) (ms : List ℕ) → Bytes ms → maskRefusal ms ≡ 0 → foreign m (maskOf ms) ≡ false → Fits m (maskOf ms)
 unfolding maskOf
 mask-fits m ms h r f =
-    let t = mask-taken ms r in
+    let t = mask-record ms r in
     record {
       few = omega (arith, length-blocks (count ms) ms 6);
       room = record { each = formed m (maskOf ms) (t .bounds) (each-bytes ms h (count ms) 6) (none-foreign m (maskOf ms) .0 f); sum = t .sum };
