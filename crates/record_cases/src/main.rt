@@ -1,0 +1,80 @@
+// Runs the cases of standard input, one a line, through the crates records and alphabet, and writes a line for each. A
+// case is `NAME: COMMAND HEX HEX ..`; an empty line and a line that starts with `#` are none.
+
+mod books;
+mod hex;
+mod letters;
+mod masks;
+mod show;
+mod text;
+
+use hex::Filled;
+use libc::STDIN_FILENO;
+
+// Reads the cases and runs them.
+fn main() {
+    let mut input = io::large_buffer();
+    let size = io::read_full(STDIN_FILENO, &mut input);
+    let mut bytes = [0u8; 70000];
+    run_lines(&input[..size], &mut bytes);
+}
+
+// Runs the case of each line; `bytes` is room for what a case's hex text says.
+fn run_lines(input: &[u8], bytes: &mut [u8]) {
+    let mut at = 0;
+    while at < input.len() {
+        let end = text::find(input, at, b'\n');
+        run_line(&input[at..end], bytes);
+        at = end + 1;
+    }
+}
+
+// Writes the line of a case: its name, all up to the colon, and its answer. A line that is no case writes nothing.
+fn run_line(line: &[u8], bytes: &mut [u8]) {
+    if line.len() == 0 {
+        return;
+    }
+    if line[0] == b'#' {
+        return;
+    }
+    let colon = text::find(line, 0, b':');
+    show::text(&line[0..colon]);
+    show::text(b": ");
+    answer(&line[colon..], bytes);
+    show::text(b"\n");
+}
+
+// Answers the case whose text behind the name is lent: the colon, a blank, the command and the bytes in hex.
+fn answer(case: &[u8], bytes: &mut [u8]) {
+    if case.len() < 2 {
+        return show::unreadable();
+    }
+    if case[1] != b' ' {
+        return show::unreadable();
+    }
+    let end = text::find(case, 2, b' ');
+    let got = hex::read_bytes(&case[end..], bytes);
+    let Filled::Count(count) = got else {
+        return show::unreadable();
+    };
+    run_command(&case[2..end], &bytes[0..count]);
+}
+
+// Answers a command on the bytes of its case.
+fn run_command(command: &[u8], bytes: &[u8]) {
+    if check::same(command, b"book") {
+        books::book(bytes);
+    } else if check::same(command, b"moves") {
+        books::moves(bytes);
+    } else if check::same(command, b"mask") {
+        masks::mask(bytes);
+    } else if check::same(command, b"letters") {
+        masks::letters(bytes);
+    } else if check::same(command, b"signs") {
+        letters::signs(bytes);
+    } else if check::same(command, b"bytes") {
+        letters::numbers(bytes);
+    } else {
+        show::unreadable();
+    }
+}
