@@ -6,7 +6,7 @@ use mathlib.Core.Logic.{_↔_, _⊎_, inl, inr, ⊎-elim}
 use mathlib.Core.Bool.{Bool, true, false, not, _&&_, _||_}
 use mathlib.Core.List.{List, [], _∷_}
 use native.Mathlib.Omega.{arith}
-use borrow.Author.Tests.{le-ltb, lt-leb, eq-eqb, ltb-false, leb-false, eqb-true, not-false}
+use borrow.Author.Tests.{le-ltb, lt-leb, eq-eqb, ne-eqb, ltb-false, leb-false, eqb-true, not-false}
 use lib.Dec.{leb, eqb}
 use lib.ListN.{length, length-drop}
 use Rattle.model.specs.declared.Block.{Block}
@@ -17,13 +17,19 @@ use Rattle.model.specs.Legal.{Checked}
 use Rattle.model.specs.Size.{uppers, WellFormed, Fits}
 use Rattle.records.specs.declared.Book.{Book}
 use Rattle.records.specs.Bytes.{Bytes}
-use Rattle.records.specs.Check.{refuse, some, kind}
+use Rattle.records.specs.Check.{refuse, some, lengthField, kind, unframed}
 use Rattle.records.specs.Book.{bookHead, movesOf, bookOf, stray, unnamed, bookChecks, bookRefusal}
 use Rattle.records.specs.Mask.{count, blockFrom, blocksFrom, maskOf, crossed, maskRefusal, beyond, foreign}
 use Rattle.records.specs.WellFormed.{Sound, BookRecord, MaskRecord}
 use Rattle.records.proofs.Numbers.{number-lt}
 use Rattle.records.proofs.Offsets.{length-blocks}
 use Rattle.records.proofs.Checks.{peel, neither, framing, in-range, none-from, none-each, none-at, each-map}
+
+-- a slice of more than 65,535 bytes is refused by check 1: no length field says so much
+pub too-long : (bs : List ℕ) → Bytes bs → 65535 < length bs → unframed bs ≡ true
+unfolding unframed
+too-long bs h l =
+    rw (le-ltb (length bs) 4 (omega arith), ne-eqb (lengthField bs) (length bs) (λ e. omega (arith, number-lt 2 bs 0 h)))
 
 -- ---- books
 
