@@ -47,7 +47,8 @@ each-map P Q f [] h = tt
 each-map P Q f (x ∷ xs) (h, hs) = (f x h, each-map P Q f xs hs)
 
 -- no block passes the test: each has what the test denies
-pub none-each : (p : Block → Bool) (P : Block → Type 0) → ((x : Block) → (p x ≡ false) ↔ P x) → (xs : List Block) → (some p xs ≡ false) ↔ Each P xs
+pub none-each : (p : Block → Bool) (P : Block → Type 0) → ((x : Block) → (p x ≡ false) ↔ P x)
+    → (xs : List Block) → (some p xs ≡ false) ↔ Each P xs
 unfolding some
 none-each p P h [] = (λ e. tt, λ e. refl)
 none-each p P h (x ∷ xs) = (

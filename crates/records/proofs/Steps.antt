@@ -22,7 +22,8 @@ unfolding numberAt
 reading-starts bs at width = record { within = omega arith; value = rw sub-self; small = rw sub-self (omega arith) }
 
 -- one byte more; its number still fits in 64 bits
-module _ (bs : List ℕ) (at width number left b : ℕ) (read : Reading bs at width number left) (some : 0 < left) (byte : b ≡ byteAt bs (at + (left - 1))) (small : b < 256) where
+module _ (bs : List ℕ) (at width number left b : ℕ) (read : Reading bs at width number left)
+    (some : 0 < left) (byte : b ≡ byteAt bs (at + (left - 1))) (small : b < 256) where
   below : b + 256 * number < 256 ^ suc (width - left)
   below = omega (arith, pow-suc 256 (width - left))
 

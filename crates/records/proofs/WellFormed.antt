@@ -55,7 +55,8 @@ naming b moves = (λ e. let (h, k) = outer .0 e in (inner .0 h, k), λ (h, k). o
         ↔ ((leb (b .states) (b .start) ≡ false) × (someFrom (b .accepting) (b .states) ≡ false))
     inner = neither (leb (b .states) (b .start)) (someFrom (b .accepting) (b .states))
 
-    outer : (unnamed b moves ≡ false) ↔ ((leb (b .states) (b .start) || someFrom (b .accepting) (b .states) ≡ false) × (some (stray (b .states)) moves ≡ false))
+    outer : (unnamed b moves ≡ false)
+        ↔ ((leb (b .states) (b .start) || someFrom (b .accepting) (b .states) ≡ false) × (some (stray (b .states)) moves ≡ false))
     outer = neither (leb (b .states) (b .start) || someFrom (b .accepting) (b .states)) (some (stray (b .states)) moves)
 
 -- what is not refused as a book is a well-formed record

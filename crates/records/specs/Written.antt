@@ -1,9 +1,9 @@
 -- A mask written as a kind 2 record (01, "Records").
-use Prim.Native.Nat.{ℕ, _+_, _*_}
+use Prim.Native.Nat.{ℕ, _+_, _*_, _≤_}
 use mathlib.Core.List.{List, [], _∷_, _++_}
 use lib.ListN.{length, getD}
 use Rattle.model.specs.declared.Block.{Block}
-use Rattle.model.specs.DashedString.{block}
+use Rattle.model.specs.DashedString.{block, values}
 use Rattle.records.specs.Bytes.{bytesOf}
 
 -- the 12 bytes of a block: S, l, u
@@ -26,3 +26,11 @@ maskBytes xs = headBytes (length xs) ++ blocksBytes xs
 -- block i of three lists: its set, its lower and its upper bound
 abbrev pub numbered : List ℕ → List ℕ → List ℕ → ℕ → Block
 numbered bases lowers uppers i = block (getD bases i 0) (getD lowers i 0) (getD uppers i 0)
+
+-- the first k blocks of three lists
+abbrev pub blocksOf : List ℕ → List ℕ → List ℕ → ℕ → List Block
+blocksOf bases lowers uppers k = values (numbered bases lowers uppers) k
+
+-- three lists of at least k elements
+abbrev pub Enough : List ℕ → List ℕ → List ℕ → ℕ → Type 0
+Enough bases lowers uppers k = (k ≤ length bases) × (k ≤ length lowers) × (k ≤ length uppers)

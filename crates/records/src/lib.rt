@@ -3,12 +3,12 @@
 ghost use mathlib.Core.Path.{_≡_};
 ghost use Prim.Native.Nat.{_+_, _*_, _≤_, _<_};
 ghost use lib.ListN.{length};
-ghost use Rattle.model.specs.DashedString.{values, blockAt};
+ghost use Rattle.model.specs.DashedString.{blockAt};
 ghost use Rattle.model.specs.Automaton.{next};
 ghost use Rattle.records.specs.Bytes.{over};
 ghost use Rattle.records.specs.Book.{tableOf, readBook};
 ghost use Rattle.records.specs.Mask.{count, maskOf, readMask, foreign};
-ghost use Rattle.records.specs.Written.{numbered, maskBytes};
+ghost use Rattle.records.specs.Written.{maskBytes, blocksOf, Enough};
 
 mod automaton;
 mod blocks;
@@ -151,8 +151,11 @@ pub fn write_mask(
     count: usize,
     out: &mut [u8],
 ) -> usize
-    requires { ⌜ (count ≤ length (now bases)) × (count ≤ length (now lowers)) × (count ≤ length (now uppers)) × (6 + 12 * count ≤ length (now out)) ⌝ }
-    ensures { λ r. ⌜ (r ≡ 6 + 12 * count) × (now (out .exit) ≡ over (maskBytes (values (numbered (now (bases .entry)) (now (lowers .entry)) (now (uppers .entry))) count)) (now (out .entry))) ⌝ }
+    requires { ⌜ Enough (now bases) (now lowers) (now uppers) count ⌝ }
+    requires { ⌜ 6 + 12 * count ≤ length (now out) ⌝ }
+    ensures { λ r. ⌜ (
+        let written = maskBytes (blocksOf (now (bases .entry)) (now (lowers .entry)) (now (uppers .entry)) count) in
+        (r ≡ 6 + 12 * count) × (now (out .exit) ≡ over written (now (out .entry)))) ⌝ }
 {
     let size = 6 + 12 * count;
     number::write(out, 0, 2, size as u64);

@@ -3,9 +3,8 @@ ghost use mathlib.Core.Path.{_≡_};
 ghost use Prim.Native.Nat.{_+_, _*_, _≤_};
 ghost use lib.ListN.{length};
 ghost use lib.Seq.{sets};
-ghost use Rattle.model.specs.DashedString.{values};
 ghost use Rattle.records.specs.Bytes.{over};
-ghost use Rattle.records.specs.Written.{blockBytes, blocksBytes, numbered};
+ghost use Rattle.records.specs.Written.{blockBytes, blocksBytes, blocksOf, Enough};
 use crate::number;
 use model::Block;
 
@@ -27,8 +26,11 @@ pub(crate) fn write_blocks(
     count: usize,
     out: &mut [u8],
 )
-    requires { ⌜ (count ≤ length (now bases)) × (count ≤ length (now lowers)) × (count ≤ length (now uppers)) × (12 * count ≤ length (now out)) ⌝ }
-    ensures { λ _. ⌜ now (out .exit) ≡ over (blocksBytes (values (numbered (now (bases .entry)) (now (lowers .entry)) (now (uppers .entry))) count)) (now (out .entry)) ⌝ }
+    requires { ⌜ Enough (now bases) (now lowers) (now uppers) count ⌝ }
+    requires { ⌜ 12 * count ≤ length (now out) ⌝ }
+    ensures { λ _. ⌜ (
+        let written = blocksBytes (blocksOf (now (bases .entry)) (now (lowers .entry)) (now (uppers .entry)) count) in
+        now (out .exit) ≡ over written (now (out .entry))) ⌝ }
 {
     let mut i = 0;
     while i < count {

@@ -40,7 +40,10 @@ out-of-range-requires : tie.Need-out-of-range-requires
 out-of-range-requires c κs = search needs
 
 returns-4 : tie.Need-returns-4
-returns-4 c = refused-4 _ (framed (c .before .before .before .before .before .before)) (omega arith) (omega arith) _ (c .before .before .head .ensures) (sym (c .before .out-of-range .ensures) ∙ c .if4 .taken)
+returns-4 c =
+    let head = c .before .before in
+    let first = head .before .before .before .before in
+    refused-4 _ (framed first) (omega arith) (omega arith) _ (head .head .ensures) (sym (c .before .out-of-range .ensures) ∙ c .if4 .taken)
 
 mul-if5 : tie.Need-mul-if5
 mul-if5 c = record { fits = omega (arith, few-moves _ (ranged (c .before))) }
@@ -49,7 +52,11 @@ add-if5 : tie.Need-add-if5
 add-if5 c = record { fits = omega (arith, few-moves _ (ranged (c .before))) }
 
 returns-5 : tie.Need-returns-5
-returns-5 c = refused-5 _ (framed (c .before .before .before .before .before .before .before .before)) (omega arith) (omega arith) _ (c .before .before .before .before .head .ensures) (ranged (c .before .before)) (c .if5 .taken)
+returns-5 c =
+    let fourth = c .before .before in
+    let head = fourth .before .before in
+    let first = head .before .before .before .before in
+    refused-5 _ (framed first) (omega arith) (omega arith) _ (head .head .ensures) (ranged fourth) (c .if5 .taken)
 
 sub-unnamed : tie.Need-sub-unnamed
 sub-unnamed c = search needs
@@ -64,10 +71,20 @@ unnamed-requires : tie.Need-unnamed-requires
 unnamed-requires c κs = search needs
 
 returns-6 : tie.Need-returns-6
-returns-6 c = refused-6 _ (framed (c .before .before .before .before .before .before .before .before .before .before .before)) (omega arith) (omega arith) _ (c .before .before .before .before .before .before .before .head .ensures) (ranged (c .before .before .before .before .before)) (c .before .before .before .if5 .left) (sym (c .before .unnamed .ensures) ∙ c .if6 .taken)
+returns-6 c =
+    let fifth = c .before .before .before in
+    let fourth = fifth .before .before in
+    let head = fourth .before .before in
+    let first = head .before .before .before .before in
+    refused-6 _ (framed first) (omega arith) (omega arith) _ (head .head .ensures) (ranged fourth) (fifth .if5 .left) (sym (c .before .unnamed .ensures) ∙ c .if6 .taken)
 
 returns-7 : tie.Need-returns-7
-returns-7 c = accepted _ (framed (c .before .before .before .before .before .before .before .before .before .before .before)) (omega arith) (omega arith) _ (c .before .before .before .before .before .before .before .head .ensures) (ranged (c .before .before .before .before .before)) (c .before .before .before .if5 .left) (sym (c .before .unnamed .ensures) ∙ c .if6 .left)
+returns-7 c =
+    let fifth = c .before .before .before in
+    let fourth = fifth .before .before in
+    let head = fourth .before .before in
+    let first = head .before .before .before .before in
+    accepted _ (framed first) (omega arith) (omega arith) _ (head .head .ensures) (ranged fourth) (fifth .if5 .left) (sym (c .before .unnamed .ensures) ∙ c .if6 .left)
 
 pub read-book-spec : {M : Type 1} → statement M
 read-book-spec =

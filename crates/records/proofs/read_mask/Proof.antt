@@ -32,7 +32,10 @@ read-requires : tie.Need-read-requires
 read-requires c κs = search needs
 
 returns-4 : tie.Need-returns-4
-returns-4 c = refused-4 _ (framed (c .before .before .before .before .before)) (omega arith) (omega arith) _ (c .before .read .ensures .0) (omega arith)
+returns-4 c =
+    let read = c .before in
+    let first = read .before .before .before .before in
+    refused-4 _ (framed first) (omega arith) (omega arith) _ (read .read .ensures .0) (omega arith)
 
 mul-if5 : tie.Need-mul-if5
 mul-if5 c = search needs
@@ -41,22 +44,38 @@ add-if5 : tie.Need-add-if5
 add-if5 c = search needs
 
 returns-5 : tie.Need-returns-5
-returns-5 c = refused-5 _ (framed (c .before .before .before .before .before .before)) (omega arith) (omega arith) _ (c .before .before .read .ensures .0) (omega arith) (c .if5 .taken)
+returns-5 c =
+    let read = c .before .before in
+    let first = read .before .before .before .before in
+    refused-5 _ (framed first) (omega arith) (omega arith) _ (read .read .ensures .0) (omega arith) (c .if5 .taken)
 
 some-crossed-requires : tie.Need-some-crossed-requires
 some-crossed-requires c κs = search needs
 
 returns-6 : tie.Need-returns-6
-returns-6 c = refused-7 _ (framed (c .before .before .before .before .before .before .before .before)) (omega arith) (omega arith) _ (c .before .before .before .before .read .ensures .0) (omega arith) (omega arith) (sym (c .before .some-crossed .ensures) ∙ c .if6 .taken)
+returns-6 c =
+    let read = c .before .before .before .before in
+    let first = read .before .before .before .before in
+    refused-7 _ (framed first) (omega arith) (omega arith) _ (read .read .ensures .0) (omega arith) (omega arith) (sym (c .before .some-crossed .ensures) ∙ c .if6 .taken)
 
 sum-uppers-requires : tie.Need-sum-uppers-requires
 sum-uppers-requires c κs = search needs
 
 returns-7 : tie.Need-returns-7
-returns-7 c = refused-8 _ (framed (c .before .before .before .before .before .before .before .before .before .before)) (omega arith) (omega arith) _ (c .before .before .before .before .before .before .read .ensures .0) (omega arith) (omega arith) (sym (c .before .before .before .some-crossed .ensures) ∙ c .before .before .if6 .left) _ (c .before .sum-uppers .ensures) (omega arith)
+returns-7 c =
+    let sixth = c .before .before in
+    let read = sixth .before .before .before .before in
+    let first = read .before .before .before .before in
+    let bounded = sym (sixth .before .some-crossed .ensures) ∙ sixth .if6 .left in
+    refused-8 _ (framed first) (omega arith) (omega arith) _ (read .read .ensures .0) (omega arith) (omega arith) bounded _ (c .before .sum-uppers .ensures) (omega arith)
 
 returns-8 : tie.Need-returns-8
-returns-8 c = accepted _ (framed (c .before .before .before .before .before .before .before .before .before .before)) (omega arith) (omega arith) _ (c .before .before .before .before .before .before .read .ensures .0) (omega arith) (omega arith) (sym (c .before .before .before .some-crossed .ensures) ∙ c .before .before .if6 .left) _ (c .before .sum-uppers .ensures) (omega arith)
+returns-8 c =
+    let sixth = c .before .before in
+    let read = sixth .before .before .before .before in
+    let first = read .before .before .before .before in
+    let bounded = sym (sixth .before .some-crossed .ensures) ∙ sixth .if6 .left in
+    accepted _ (framed first) (omega arith) (omega arith) _ (read .read .ensures .0) (omega arith) (omega arith) bounded _ (c .before .sum-uppers .ensures) (omega arith)
 
 pub read-mask-spec : {M : Type 1} → statement M
 read-mask-spec =

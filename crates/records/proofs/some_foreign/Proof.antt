@@ -24,8 +24,9 @@ some-from-requires c κs = search needs
 
 returns : tie.Need-returns Inv-loop μ-loop
 returns c =
-    seeking-found _ _ _ _ _ (c .before .before .before .before .loop .inv) _ (omega arith) (c .before .before .block-from .ensures) (sym (c .before .some-from .ensures) ∙ c .if1 .taken)
-    ∙ foreign-all _ _ _ (omega arith)
+    let block = c .before .before in
+    let found = sym (c .before .some-from .ensures) ∙ c .if1 .taken in
+    seeking-found _ _ _ _ _ (block .before .before .loop .inv) _ (omega arith) (block .block-from .ensures) found ∙ foreign-all _ _ _ (omega arith)
 
 add-at : tie.Need-add-at Inv-loop μ-loop
 add-at c = omega arith
@@ -37,7 +38,10 @@ loop-less : tie.Need-loop-less Inv-loop μ-loop
 loop-less c = omega arith
 
 loop-again : tie.Need-loop-again Inv-loop μ-loop
-loop-again c = seeking-more _ _ _ _ _ (c .before .before .before .before .loop .inv) _ (omega arith) (c .before .before .block-from .ensures) (sym (c .before .some-from .ensures) ∙ c .if1 .left)
+loop-again c =
+    let block = c .before .before in
+    let passed = sym (c .before .some-from .ensures) ∙ c .if1 .left in
+    seeking-more _ _ _ _ _ (block .before .before .loop .inv) _ (omega arith) (block .block-from .ensures) passed
 
 returns-2 : tie.Need-returns-2 Inv-loop μ-loop
 returns-2 c = seeking-ends _ _ _ _ _ (c .before .loop .inv) (omega arith) ∙ foreign-all _ _ _ (omega arith)

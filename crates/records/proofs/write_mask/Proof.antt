@@ -39,7 +39,12 @@ same-length c = search needs
 
 returns : tie.Need-returns
 unfolding headBytes
-returns c = (refl, mask-stored _ _ _ _ _ (omega arith) (three-stored _ _ _ _ 0 2 _ 2 _ 2 _ (c .before .before .before .before .before .before .before .before .before .before .before .before .before .before .write .ensures) (c .before .before .before .before .before .before .before .before .before .before .write2 .ensures) (c .before .before .before .before .before .before .write3 .ensures)) (c .before .before .write-blocks .ensures))
+returns c =
+    let count = c .before .before .before .before .before .before in
+    let kind = count .before .before .before .before in
+    let size = kind .before .before .before .before in
+    let head = three-stored _ _ _ _ 0 2 _ 2 _ 2 _ (size .write .ensures) (kind .write2 .ensures) (count .write3 .ensures) in
+    (refl, mask-stored _ _ _ _ _ (omega arith) head (c .before .before .write-blocks .ensures))
 
 pub write-mask-spec : {M : Type 1} → statement M
 write-mask-spec =

@@ -7,7 +7,8 @@ use Rattle.record_cases.proofs.masks.copy_blocks.Statement.{statement}
 use Rattle.record_cases.proofs.masks.copy_blocks.Tie as tie
 
 abbrev Inv-loop : tie.InvT-loop
-Inv-loop bytes blocks bases₀ lowers₀ uppers₀ i₀ bases lowers uppers i = (i ≤ blocks) × (length bases ≡ length bases₀) × (length lowers ≡ length lowers₀) × (length uppers ≡ length uppers₀)
+Inv-loop bytes blocks bases₀ lowers₀ uppers₀ i₀ bases lowers uppers i =
+    (i ≤ blocks) × (length bases ≡ length bases₀) × (length lowers ≡ length lowers₀) × (length uppers ≡ length uppers₀)
 
 abbrev μ-loop : tie.MeasureT-loop
 μ-loop bytes blocks bases₀ lowers₀ uppers₀ i₀ bases lowers uppers i = blocks - i

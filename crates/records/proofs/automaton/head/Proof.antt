@@ -27,7 +27,11 @@ read-requires c κs = search needs
 
 returns : tie.Need-returns
 unfolding bookHead
-returns c = rw (c .before .before .before .before .before .wide .ensures .0, c .before .before .before .wide2 .ensures .0, c .before .wide3 .ensures .0, c .read .ensures .0)
+returns c =
+    let start = c .before in
+    let letters = start .before .before in
+    let states = letters .before .before in
+    rw (states .wide .ensures .0, letters .wide2 .ensures .0, start .wide3 .ensures .0, c .read .ensures .0)
 
 pub head-spec : {M : Type 1} → statement M
 head-spec =

@@ -19,7 +19,9 @@ block-from-requires : tie.Need-block-from-requires Inv-loop μ-loop
 block-from-requires c κs = omega arith
 
 returns : tie.Need-returns Inv-loop μ-loop
-returns c = seeking-found _ _ _ _ _ (c .before .before .before .before .loop .inv) _ (omega arith) (c .before .before .block-from .ensures) (lt-ltb _ _ (c .if1 .taken))
+returns c =
+    let block = c .before .before in
+    seeking-found _ _ _ _ _ (block .before .before .loop .inv) _ (omega arith) (block .block-from .ensures) (lt-ltb _ _ (c .if1 .taken))
 
 add-at : tie.Need-add-at Inv-loop μ-loop
 add-at c = omega arith
@@ -31,7 +33,9 @@ loop-less : tie.Need-loop-less Inv-loop μ-loop
 loop-less c = omega arith
 
 loop-again : tie.Need-loop-again Inv-loop μ-loop
-loop-again c = seeking-more _ _ _ _ _ (c .before .before .before .before .loop .inv) _ (omega arith) (c .before .before .block-from .ensures) (le-ltb _ _ (c .if1 .left))
+loop-again c =
+    let block = c .before .before in
+    seeking-more _ _ _ _ _ (block .before .before .loop .inv) _ (omega arith) (block .block-from .ensures) (le-ltb _ _ (c .if1 .left))
 
 returns-2 : tie.Need-returns-2 Inv-loop μ-loop
 returns-2 c = seeking-ends _ _ _ _ _ (c .before .loop .inv) (omega arith)

@@ -30,7 +30,8 @@ add-number : tie.Need-add-number Inv-loop μ-loop
 add-number c =
     let loop = c .before .before .before .loop in
     let args = c .before .before .before .before .before .args in
-    record { fits = reading-fits (args .bytes .now) (args .at) (args .width) (loop .number) (loop .left) (c .wide .result) (loop .inv) (omega arith) (c .wide .ensures .0) (omega arith) (omega arith) }
+    let fits = reading-fits (args .bytes .now) (args .at) (args .width) (loop .number) (loop .left) (c .wide .result) (loop .inv) in
+    record { fits = fits (omega arith) (c .wide .ensures .0) (omega arith) (omega arith) }
 
 mul-number : tie.Need-mul-number Inv-loop μ-loop
 mul-number c = record { fits = omega (arith, add-number c .fits) }

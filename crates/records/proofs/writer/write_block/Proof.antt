@@ -31,7 +31,11 @@ same-length c = search needs
 
 returns : tie.Need-returns
 unfolding blockBytes
-returns c = three-stored _ _ _ _ _ 8 _ 2 _ 2 _ (c .before .before .before .before .before .before .before .before .before .before .before .before .write .ensures) (c .before .before .before .before .before .before .before .write2 .ensures) (c .before .before .write3 .ensures)
+returns c =
+    let upper = c .before .before in
+    let lower = upper .before .before .before .before .before in
+    let base = lower .before .before .before .before .before in
+    three-stored _ _ _ _ _ 8 _ 2 _ 2 _ (base .write .ensures) (lower .write2 .ensures) (upper .write3 .ensures)
 
 pub write-block-spec : {M : Type 1} → statement M
 write-block-spec =

@@ -46,7 +46,9 @@ loop-less : tie.Need-loop-less Inv-loop μ-loop
 loop-less c = omega arith
 
 loop-again : tie.Need-loop-again Inv-loop μ-loop
-loop-again c = filling-more _ _ _ _ _ (c .before .before .before .before .before .before .before .before .loop .inv) _ (omega arith) (c .before .before .write-block .ensures)
+loop-again c =
+    let written = c .before .before in
+    filling-more _ _ _ _ _ (written .before .before .before .before .before .before .loop .inv) _ (omega arith) (written .write-block .ensures)
 
 same-length : tie.Need-same-length Inv-loop μ-loop
 same-length c = c .before .loop .inv .size
