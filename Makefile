@@ -1,6 +1,6 @@
 .PHONY: check test
 
-# Proves every crate that changed since it was last proved.
+# Proves every crate that changed since it was last proved, and runs the cases.
 check:
 	@rt check
 

@@ -183,9 +183,9 @@ formed m [] bounds bytes letters = tt
 formed m (x ∷ xs) (h, bounds) (k, bytes) (l, letters) = (record { bounds = h; bytes = k; letters = l }, formed m xs bounds bytes letters)
 
 -- a mask that is not refused, with letters below m, fits a record
-pub mask-fits : (m : ℕ) (ms : List ℕ) → Bytes ms → maskRefusal ms ≡ 0 → foreign m (maskOf ms) ≡ false → Fits m (maskOf ms)
+pub record-fits : (m : ℕ) (ms : List ℕ) → Bytes ms → maskRefusal ms ≡ 0 → foreign m (maskOf ms) ≡ false → Fits m (maskOf ms)
 unfolding maskOf
-mask-fits m ms h r f =
+record-fits m ms h r f =
     let t = mask-record ms r in
     record {
       few = omega (arith, length-blocks (count ms) ms 6);
@@ -193,6 +193,6 @@ mask-fits m ms h r f =
     }
 
 -- every letter is below 64, so every mask that is not refused fits one
-pub mask-fits-64 : (ms : List ℕ) → Bytes ms → maskRefusal ms ≡ 0 → Fits 64 (maskOf ms)
-mask-fits-64 ms h r =
-    mask-fits 64 ms h r (none-foreign 64 (maskOf ms) .1 (each-map Bounded (Native 64) (λ x b c m. m .small) (maskOf ms) (mask-bounded ms r)))
+pub record-fits-64 : (ms : List ℕ) → Bytes ms → maskRefusal ms ≡ 0 → Fits 64 (maskOf ms)
+record-fits-64 ms h r =
+    record-fits 64 ms h r (none-foreign 64 (maskOf ms) .1 (each-map Bounded (Native 64) (λ x b c m. m .small) (maskOf ms) (mask-bounded ms r)))

@@ -2,7 +2,7 @@
 ghost use mathlib.Core.Path.{_≡_};
 ghost use Prim.Native.Nat.{_≤_};
 ghost use lib.ListN.{length};
-ghost use Rattle.records.specs.Book.{bookHead, outside as outsideOf, outOfRange, unnamed as unnamedOf};
+ghost use Rattle.records.specs.Book as spec;
 use crate::Book;
 use crate::moves;
 use crate::number;
@@ -11,7 +11,7 @@ use crate::number::wide;
 // The numbers of the head.
 pub(crate) fn head(bytes: &[u8]) -> Book
     requires { ⌜ 15 ≤ length (now bytes) ⌝ }
-    ensures { λ r. ⌜ r ≡ bookHead (now (bytes .entry)) ⌝ }
+    ensures { λ r. ⌜ r ≡ spec.bookHead (now (bytes .entry)) ⌝ }
 {
     Book {
         states: wide(bytes[4]) as usize,
@@ -23,7 +23,7 @@ pub(crate) fn head(bytes: &[u8]) -> Book
 
 // Whether a number is outside the range from 1 to `most`.
 fn outside(most: usize, x: usize) -> bool
-    ensures { λ r. ⌜ r ≡ outsideOf most x ⌝ }
+    ensures { λ r. ⌜ r ≡ spec.outside most x ⌝ }
 {
     if x == 0 {
         return true;
@@ -33,7 +33,7 @@ fn outside(most: usize, x: usize) -> bool
 
 // Check 4: whether n or m is outside its range.
 pub(crate) fn out_of_range(book: Book) -> bool
-    ensures { λ r. ⌜ r ≡ outOfRange book ⌝ }
+    ensures { λ r. ⌜ r ≡ spec.outOfRange book ⌝ }
 {
     if outside(63, book.states) {
         return true;
@@ -43,7 +43,7 @@ pub(crate) fn out_of_range(book: Book) -> bool
 
 // Check 6: whether the start, an accepting bit or a move names no state.
 pub(crate) fn unnamed(book: Book, moves: &[u8]) -> bool
-    ensures { λ r. ⌜ r ≡ unnamedOf book (now (moves .entry)) ⌝ }
+    ensures { λ r. ⌜ r ≡ spec.unnamed book (now (moves .entry)) ⌝ }
 {
     if book.states <= book.start {
         return true;

@@ -2,12 +2,12 @@
 ghost use mathlib.Core.Path.{_≡_};
 ghost use Prim.Native.Nat.{_≤_};
 ghost use lib.ListN.{length};
-ghost use Rattle.records.specs.Check as check;
+ghost use Rattle.records.specs.Check as spec;
 use crate::number;
 
 // Check 1: whether there are fewer than 4 bytes, or the length field isn't their number.
 pub(crate) fn unframed(bytes: &[u8]) -> bool
-    ensures { λ r. ⌜ r ≡ check.unframed (now (bytes .entry)) ⌝ }
+    ensures { λ r. ⌜ r ≡ spec.unframed (now (bytes .entry)) ⌝ }
 {
     if bytes.len() < 4 {
         return true;
@@ -18,7 +18,7 @@ pub(crate) fn unframed(bytes: &[u8]) -> bool
 // The kind of a record.
 pub(crate) fn kind(bytes: &[u8]) -> u64
     requires { ⌜ 4 ≤ length (now bytes) ⌝ }
-    ensures { λ r. ⌜ r ≡ check.kind (now (bytes .entry)) ⌝ }
+    ensures { λ r. ⌜ r ≡ spec.kind (now (bytes .entry)) ⌝ }
 {
     number::read(bytes, 2, 2)
 }

@@ -1,14 +1,12 @@
 // The moves of a book, n times m bytes, state by state.
 ghost use mathlib.Core.Path.{_≡_};
-ghost use Prim.Native.Nat.{_*_, _<_, _≤_};
-ghost use lib.ListN.{length};
 ghost use Rattle.records.specs.Check.{some};
-ghost use Rattle.records.specs.Book as book;
+ghost use Rattle.records.specs.Book as spec;
 use crate::number::wide;
 
 // Whether a move names no state, and isn't 255.
 fn stray(states: usize, next: u8) -> bool
-    ensures { λ r. ⌜ r ≡ book.stray states next ⌝ }
+    ensures { λ r. ⌜ r ≡ spec.stray states next ⌝ }
 {
     let state = wide(next) as usize;
     if state < states {
@@ -19,7 +17,7 @@ fn stray(states: usize, next: u8) -> bool
 
 // Whether some move is such a one.
 pub(crate) fn some_stray(states: usize, moves: &[u8]) -> bool
-    ensures { λ r. ⌜ r ≡ some (book.stray states) (now (moves .entry)) ⌝ }
+    ensures { λ r. ⌜ r ≡ some (spec.stray states) (now (moves .entry)) ⌝ }
 {
     let mut i = 0;
     while i < moves.len() {
