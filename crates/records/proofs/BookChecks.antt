@@ -1,17 +1,17 @@
 -- The book checks one after the other: which one decides, by what passed before it.
 -- Assumes nothing.
-use mathlib.Core.Path.{_≡_}
+use mathlib.Core.Path.{_≡_, refl, _∙_}
 use mathlib.Core.Bool.{Bool, true, false}
 use mathlib.Core.List.{List}
-use Prim.Native.Nat.{ℕ, _+_, _*_, _-_, _≤_, _<_}
-use borrow.Author.Tests.{lt-ltb, le-ltb, lt-leb, le-leb, eq-eqb, ne-eqb}
-use lib.Dec.{ltb, eqb}
+use Prim.Native.Nat.{ℕ, suc, _+_, _*_, _-_, _≤_, _<_}
+use borrow.Author.Tests.{lt-leb, le-leb}
 use lib.ListN.{length, take, drop}
 use Rattle.model.specs.Set.{someFrom}
 use Rattle.records.specs.declared.Book.{Book}
 use Rattle.records.specs.declared.BookOrRefusal.the-variants.{Accepted, Refused}
 use Rattle.records.specs.Check.{refuse, some, kind, unframed}
 use Rattle.records.specs.Book.{bookHead, movesOf, outside, outOfRange, stray, unnamed, bookChecks, readBook}
+use Rattle.records.proofs.Checks.{on, off, is, is-not, first, second, third, past-three}
 use Rattle.records.proofs.Over.{part-rest}
 
 -- check 4: n decides, or m does
@@ -38,46 +38,45 @@ module _ (b : Book) (moves : List ℕ) where
     unfolding unnamed
     moves-decide r e f = rw (lt-leb (b .states) (b .start) start, e, f)
 
--- the whole chain
+-- the whole chain, of a record with head b
+module _ (bs : List ℕ) (b : Book) (head : b ≡ bookHead bs) where
+  -- a number that the checks give is the answer
+  refused : (r : ℕ) → bookChecks bs b ≡ suc r → Refused (suc r) ≡ readBook bs
+  unfolding readBook
+  refused r e = rw (← head, e)
+
+  module _ (framed : unframed bs ≡ false) (right : kind bs ≡ 1) (long : 15 ≤ length bs) where
+    pub refused-4 : outOfRange b ≡ true → Refused 4 ≡ readBook bs
+    unfolding bookChecks
+    refused-4 h = refused 3 (past-three bs 1 15 _ framed right long ∙ on _ _ _ h)
+
+    module _ (ranged : outOfRange b ≡ false) where
+      pub refused-5 : (length bs ≡ 15 + b .states * b .letters → ⊥) → Refused 5 ≡ readBook bs
+      unfolding bookChecks
+      refused-5 h = refused 4 (past-three bs 1 15 _ framed right long ∙ off _ _ _ ranged ∙ on _ _ _ (is-not _ _ h))
+
+      module _ (exact : length bs ≡ 15 + b .states * b .letters) where
+        to-six : bookChecks bs b ≡ refuse (unnamed b (take (length bs - 15) (drop 15 bs))) 6 0
+        unfolding bookChecks movesOf
+        to-six = past-three bs 1 15 _ framed right long ∙ off _ _ _ ranged ∙ off _ _ _ (is _ _ exact) ∙ rw (part-rest 15 bs)
+
+        pub refused-6 : unnamed b (take (length bs - 15) (drop 15 bs)) ≡ true → Refused 6 ≡ readBook bs
+        refused-6 h = refused 5 (to-six ∙ on _ _ _ h)
+
+        pub accepted : unnamed b (take (length bs - 15) (drop 15 bs)) ≡ false → Accepted b ≡ readBook bs
+        unfolding readBook
+        accepted h = rw (← head, to-six ∙ off _ _ _ h)
+
+-- its first three checks
 module _ (bs : List ℕ) where
   pub refused-1 : unframed bs ≡ true → Refused 1 ≡ readBook bs
-  unfolding refuse bookChecks readBook
-  refused-1 e = simp e
+  unfolding bookChecks
+  refused-1 e = refused bs (bookHead bs) refl 0 (first bs 1 15 _ e)
 
-  module _ (framed : unframed bs ≡ false) where
-    pub refused-2 : (kind bs ≡ 1 → ⊥) → Refused 2 ≡ readBook bs
-    unfolding refuse bookChecks readBook
-    refused-2 h = simp (framed, ne-eqb (kind bs) 1 h)
+  pub refused-2 : unframed bs ≡ false → (kind bs ≡ 1 → ⊥) → Refused 2 ≡ readBook bs
+  unfolding bookChecks
+  refused-2 framed h = refused bs (bookHead bs) refl 1 (second bs 1 15 _ framed h)
 
-    module _ (right : kind bs ≡ 1) where
-      e2 : eqb (kind bs) 1 ≡ true
-      e2 = eq-eqb (kind bs) 1 right
-
-      pub refused-3 : length bs < 15 → Refused 3 ≡ readBook bs
-      unfolding refuse bookChecks readBook
-      refused-3 h = simp (framed, e2, lt-ltb (length bs) 15 h)
-
-      module _ (long : 15 ≤ length bs) (b : Book) (head : b ≡ bookHead bs) where
-        e3 : ltb (length bs) 15 ≡ false
-        e3 = le-ltb (length bs) 15 long
-
-        pub refused-4 : outOfRange b ≡ true → Refused 4 ≡ readBook bs
-        unfolding refuse bookChecks readBook
-        refused-4 h = simp (framed, e2, e3, ← head, h)
-
-        module _ (ranged : outOfRange b ≡ false) where
-          pub refused-5 : (length bs ≡ 15 + b .states * b .letters → ⊥) → Refused 5 ≡ readBook bs
-          unfolding refuse bookChecks readBook
-          refused-5 h = simp (framed, e2, e3, ← head, ranged, ne-eqb (length bs) (15 + b .states * b .letters) h)
-
-          module _ (exact : length bs ≡ 15 + b .states * b .letters) where
-            e5 : eqb (length bs) (15 + b .states * b .letters) ≡ true
-            e5 = eq-eqb (length bs) (15 + b .states * b .letters) exact
-
-            pub refused-6 : unnamed b (take (length bs - 15) (drop 15 bs)) ≡ true → Refused 6 ≡ readBook bs
-            unfolding refuse movesOf bookChecks readBook
-            refused-6 h = simp (framed, e2, e3, ← head, ranged, e5, rw part-rest at h)
-
-            pub accepted : unnamed b (take (length bs - 15) (drop 15 bs)) ≡ false → Accepted b ≡ readBook bs
-            unfolding refuse movesOf bookChecks readBook
-            accepted h = simp (framed, e2, e3, ← head, ranged, e5, rw part-rest at h)
+  pub refused-3 : unframed bs ≡ false → kind bs ≡ 1 → length bs < 15 → Refused 3 ≡ readBook bs
+  unfolding bookChecks
+  refused-3 framed right h = refused bs (bookHead bs) refl 2 (third bs 1 15 _ framed right h)

@@ -1,13 +1,13 @@
 -- What a check that doesn't refuse tells.
 -- Assumes nothing.
 use Prim.Native.Nat.{ℕ, zero, suc, _*_, _≤_, _<_}
-use mathlib.Core.Path.{_≡_, refl}
+use mathlib.Core.Path.{_≡_, refl, _∙_}
 use mathlib.Core.Logic.{_↔_}
 use mathlib.Core.Bool.{Bool, true, false, not, _||_, true≢false}
 use mathlib.Core.List.{List, [], _∷_}
 use native.Mathlib.Nat.{lt-of-not-le, mul-le-mul}
 use native.Mathlib.Omega.{arith}
-use borrow.Author.Tests.{ltb-false, le-ltb, eqb-true, eq-eqb, not-false}
+use borrow.Author.Tests.{ltb-false, le-ltb, lt-ltb, eqb-true, eq-eqb, ne-eqb, not-false}
 use lib.Dec.{T, ltb, eqb, eqb·suc-zero}
 use lib.ListN.{length, getD}
 use Rattle.model.specs.declared.Block.{Block}
@@ -15,7 +15,7 @@ use Rattle.model.specs.Set.{Member, someFrom}
 use Rattle.model.specs.DashedString.{Each}
 use Rattle.bitset.proofs.Laws.{some-from}
 use Rattle.records.specs.declared.Book.{Book}
-use Rattle.records.specs.Check.{refuse, some, lengthField, unframed}
+use Rattle.records.specs.Check.{refuse, some, lengthField, kind, unframed}
 use Rattle.records.specs.Book.{outside, outOfRange}
 
 -- no refusal: this check doesn't fail, and the next ones don't refuse
@@ -23,6 +23,42 @@ pub peel : (t : Bool) (k r : ℕ) → refuse t (suc k) r ≡ 0 → (t ≡ false)
 unfolding refuse
 peel true k r h = absurd (omega arith)
 peel false k r h = (refl, h)
+
+-- a check that fails decides
+pub on : (t : Bool) (k r : ℕ) → t ≡ true → refuse t k r ≡ k
+unfolding refuse
+on t k r e = rw e
+
+-- one that passes leaves it to the next
+pub off : (t : Bool) (k r : ℕ) → t ≡ false → refuse t k r ≡ r
+unfolding refuse
+off t k r e = rw e
+
+-- numbers that are to be equal, and are or aren't
+pub is : (a b : ℕ) → a ≡ b → not (eqb a b) ≡ false
+is a b e = rw (eq-eqb a b e)
+
+pub is-not : (a b : ℕ) → (a ≡ b → ⊥) → not (eqb a b) ≡ true
+is-not a b h = rw (ne-eqb a b h)
+
+-- the first three checks of a record of kind k with at least so many bytes, before the rest
+module _ (bs : List ℕ) (k least rest : ℕ) where
+  abbrev three : ℕ
+  three = refuse (unframed bs) 1 (refuse (not (eqb (kind bs) k)) 2 (refuse (ltb (length bs) least) 3 rest))
+
+  pub first : unframed bs ≡ true → three ≡ 1
+  first e = on _ _ _ e
+
+  module _ (framed : unframed bs ≡ false) where
+    pub second : (kind bs ≡ k → ⊥) → three ≡ 2
+    second h = off _ _ _ framed ∙ on _ _ _ (is-not (kind bs) k h)
+
+    module _ (right : kind bs ≡ k) where
+      pub third : length bs < least → three ≡ 3
+      third h = off _ _ _ framed ∙ off _ _ _ (is (kind bs) k right) ∙ on _ _ _ (lt-ltb (length bs) least h)
+
+      pub past-three : least ≤ length bs → three ≡ rest
+      past-three h = off _ _ _ framed ∙ off _ _ _ (is (kind bs) k right) ∙ off _ _ _ (le-ltb (length bs) least h)
 
 -- neither test fires
 pub neither : (a b : Bool) → (a || b ≡ false) ↔ ((a ≡ false) × (b ≡ false))

@@ -1,64 +1,74 @@
 -- The mask checks one after the other: which one decides, by what passed before it.
 -- Assumes nothing.
-use mathlib.Core.Path.{_≡_}
-use mathlib.Core.Bool.{true, false}
+use mathlib.Core.Path.{_≡_, _∙_}
+use mathlib.Core.Bool.{true, false, not}
 use mathlib.Core.List.{List}
-use Prim.Native.Nat.{ℕ, _+_, _*_, _≤_, _<_}
-use borrow.Author.Tests.{lt-ltb, le-ltb, eq-eqb, ne-eqb}
+use Prim.Native.Nat.{ℕ, suc, _+_, _*_, _≤_, _<_}
+use borrow.Author.Tests.{lt-ltb, le-ltb}
 use lib.Dec.{ltb, eqb}
 use lib.ListN.{length}
 use Rattle.model.specs.Size.{uppers}
 use Rattle.records.specs.declared.MaskOrRefusal.the-variants.{Accepted, Refused}
 use Rattle.records.specs.Check.{refuse, some, kind, unframed}
 use Rattle.records.specs.Mask.{count, blocksFrom, maskOf, crossed, maskRefusal, readMask}
+use Rattle.records.proofs.Checks.{on, off, is, is-not, first, second, third, past-three}
 
+-- a number that the checks give is the answer
+refused : (bs : List ℕ) (r : ℕ) → maskRefusal bs ≡ suc r → Refused (suc r) ≡ readMask bs
+unfolding readMask
+refused bs r e = rw e
+
+-- the first three checks
 module _ (bs : List ℕ) where
   pub refused-1 : unframed bs ≡ true → Refused 1 ≡ readMask bs
-  unfolding refuse maskRefusal readMask
-  refused-1 e = simp e
+  unfolding maskRefusal
+  refused-1 e = refused bs 0 (first bs 2 6 _ e)
 
-  module _ (framed : unframed bs ≡ false) where
-    pub refused-2 : (kind bs ≡ 2 → ⊥) → Refused 2 ≡ readMask bs
-    unfolding refuse maskRefusal readMask
-    refused-2 h = simp (framed, ne-eqb (kind bs) 2 h)
+  pub refused-2 : unframed bs ≡ false → (kind bs ≡ 2 → ⊥) → Refused 2 ≡ readMask bs
+  unfolding maskRefusal
+  refused-2 framed h = refused bs 1 (second bs 2 6 _ framed h)
 
-    module _ (right : kind bs ≡ 2) where
-      e2 : eqb (kind bs) 2 ≡ true
-      e2 = eq-eqb (kind bs) 2 right
+  pub refused-3 : unframed bs ≡ false → kind bs ≡ 2 → length bs < 6 → Refused 3 ≡ readMask bs
+  unfolding maskRefusal
+  refused-3 framed right h = refused bs 2 (third bs 2 6 _ framed right h)
 
-      pub refused-3 : length bs < 6 → Refused 3 ≡ readMask bs
-      unfolding refuse maskRefusal readMask
-      refused-3 h = simp (framed, e2, lt-ltb (length bs) 6 h)
+-- the checks after the third, of a record of k blocks
+module _ (bs : List ℕ) (k : ℕ) (counted : k ≡ count bs) (framed : unframed bs ≡ false) (right : kind bs ≡ 2) (long : 6 ≤ length bs) where
+  -- checks 4 to 8
+  rest : ℕ
+  rest =
+      refuse (ltb 1024 k) 4
+      (refuse (not (eqb (length bs) (6 + 12 * k))) 5
+      (refuse (some crossed (blocksFrom k bs 6)) 7
+      (refuse (ltb 1024 (uppers (blocksFrom k bs 6))) 8
+      0)))
 
-      module _ (long : 6 ≤ length bs) (k : ℕ) (counted : k ≡ count bs) where
-        e3 : ltb (length bs) 6 ≡ false
-        e3 = le-ltb (length bs) 6 long
+  to-rest : maskRefusal bs ≡ rest
+  unfolding rest maskOf maskRefusal
+  to-rest = rw counted (past-three bs 2 6 _ framed right long)
 
-        pub refused-4 : 1024 < k → Refused 4 ≡ readMask bs
-        unfolding refuse maskOf maskRefusal readMask
-        refused-4 h = simp (framed, e2, e3, ← counted, lt-ltb 1024 k h)
+  pub refused-4 : 1024 < k → Refused 4 ≡ readMask bs
+  unfolding rest
+  refused-4 h = refused bs 3 (to-rest ∙ on _ _ _ (lt-ltb 1024 k h))
 
-        module _ (few : k ≤ 1024) where
-          e4 : ltb 1024 k ≡ false
-          e4 = le-ltb 1024 k few
+  module _ (few : k ≤ 1024) where
+    pub refused-5 : (length bs ≡ 6 + 12 * k → ⊥) → Refused 5 ≡ readMask bs
+    unfolding rest
+    refused-5 h = refused bs 4 (to-rest ∙ off _ _ _ (le-ltb 1024 k few) ∙ on _ _ _ (is-not _ _ h))
 
-          pub refused-5 : (length bs ≡ 6 + 12 * k → ⊥) → Refused 5 ≡ readMask bs
-          unfolding refuse maskOf maskRefusal readMask
-          refused-5 h = simp (framed, e2, e3, ← counted, e4, ne-eqb (length bs) (6 + 12 * k) h)
+    module _ (exact : length bs ≡ 6 + 12 * k) where
+      pub refused-7 : some crossed (blocksFrom k bs 6) ≡ true → Refused 7 ≡ readMask bs
+      unfolding rest
+      refused-7 h = refused bs 6 (to-rest ∙ off _ _ _ (le-ltb 1024 k few) ∙ off _ _ _ (is _ _ exact) ∙ on _ _ _ h)
 
-          module _ (exact : length bs ≡ 6 + 12 * k) where
-            e5 : eqb (length bs) (6 + 12 * k) ≡ true
-            e5 = eq-eqb (length bs) (6 + 12 * k) exact
+      module _ (bounded : some crossed (blocksFrom k bs 6) ≡ false) (u : ℕ) (sum : u ≡ uppers (blocksFrom k bs 6)) where
+        to-eight : maskRefusal bs ≡ refuse (ltb 1024 u) 8 0
+        unfolding rest
+        to-eight = rw sum (to-rest ∙ off _ _ _ (le-ltb 1024 k few) ∙ off _ _ _ (is _ _ exact) ∙ off _ _ _ bounded)
 
-            pub refused-7 : some crossed (blocksFrom k bs 6) ≡ true → Refused 7 ≡ readMask bs
-            unfolding refuse maskOf maskRefusal readMask
-            refused-7 h = simp (framed, e2, e3, ← counted, e4, e5, h)
+        pub refused-8 : 1024 < u → Refused 8 ≡ readMask bs
+        refused-8 h = refused bs 7 (to-eight ∙ on _ _ _ (lt-ltb 1024 u h))
 
-            module _ (bounded : some crossed (blocksFrom k bs 6) ≡ false) (u : ℕ) (sum : u ≡ uppers (blocksFrom k bs 6)) where
-              pub refused-8 : 1024 < u → Refused 8 ≡ readMask bs
-              unfolding refuse maskOf maskRefusal readMask
-              refused-8 h = simp (framed, e2, e3, ← counted, e4, e5, bounded, ← sum, lt-ltb 1024 u h)
-
-              pub accepted : u ≤ 1024 → Accepted (record { blocks = k; uppers = u }) ≡ readMask bs
-              unfolding refuse maskOf maskRefusal readMask
-              accepted h = simp (framed, e2, e3, ← counted, e4, e5, bounded, ← sum, le-ltb 1024 u h)
+        pub accepted : u ≤ 1024 → Accepted (record { blocks = k; uppers = u }) ≡ readMask bs
+        unfolding maskOf readMask
+        accepted h = rw (to-eight ∙ off _ _ _ (le-ltb 1024 u h), sum, counted)

@@ -43,7 +43,7 @@ returns-4 : tie.Need-returns-4
 returns-4 c =
     let head = c .before .before in
     let first = head .before .before .before .before in
-    refused-4 _ (framed first) (omega arith) (omega arith) _ (head .head .ensures) (sym (c .before .out-of-range .ensures) ∙ c .if4 .taken)
+    refused-4 _ _ (head .head .ensures) (framed first) (omega arith) (omega arith) (sym (c .before .out-of-range .ensures) ∙ c .if4 .taken)
 
 mul-if5 : tie.Need-mul-if5
 mul-if5 c = record { fits = omega (arith, few-moves _ (ranged (c .before))) }
@@ -56,7 +56,7 @@ returns-5 c =
     let fourth = c .before .before in
     let head = fourth .before .before in
     let first = head .before .before .before .before in
-    refused-5 _ (framed first) (omega arith) (omega arith) _ (head .head .ensures) (ranged fourth) (c .if5 .taken)
+    refused-5 _ _ (head .head .ensures) (framed first) (omega arith) (omega arith) (ranged fourth) (c .if5 .taken)
 
 sub-unnamed : tie.Need-sub-unnamed
 sub-unnamed c = search needs
@@ -76,7 +76,7 @@ returns-6 c =
     let fourth = fifth .before .before in
     let head = fourth .before .before in
     let first = head .before .before .before .before in
-    refused-6 _ (framed first) (omega arith) (omega arith) _ (head .head .ensures) (ranged fourth) (fifth .if5 .left) (sym (c .before .unnamed .ensures) ∙ c .if6 .taken)
+    refused-6 _ _ (head .head .ensures) (framed first) (omega arith) (omega arith) (ranged fourth) (fifth .if5 .left) (sym (c .before .unnamed .ensures) ∙ c .if6 .taken)
 
 returns-7 : tie.Need-returns-7
 returns-7 c =
@@ -84,7 +84,7 @@ returns-7 c =
     let fourth = fifth .before .before in
     let head = fourth .before .before in
     let first = head .before .before .before .before in
-    accepted _ (framed first) (omega arith) (omega arith) _ (head .head .ensures) (ranged fourth) (fifth .if5 .left) (sym (c .before .unnamed .ensures) ∙ c .if6 .left)
+    accepted _ _ (head .head .ensures) (framed first) (omega arith) (omega arith) (ranged fourth) (fifth .if5 .left) (sym (c .before .unnamed .ensures) ∙ c .if6 .left)
 
 pub read-book-spec : {M : Type 1} → statement M
 read-book-spec =

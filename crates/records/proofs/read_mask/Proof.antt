@@ -35,7 +35,7 @@ returns-4 : tie.Need-returns-4
 returns-4 c =
     let read = c .before in
     let first = read .before .before .before .before in
-    refused-4 _ (framed first) (omega arith) (omega arith) _ (read .read .ensures .0) (omega arith)
+    refused-4 _ _ (read .read .ensures .0) (framed first) (omega arith) (omega arith) (omega arith)
 
 mul-if5 : tie.Need-mul-if5
 mul-if5 c = search needs
@@ -47,7 +47,7 @@ returns-5 : tie.Need-returns-5
 returns-5 c =
     let read = c .before .before in
     let first = read .before .before .before .before in
-    refused-5 _ (framed first) (omega arith) (omega arith) _ (read .read .ensures .0) (omega arith) (c .if5 .taken)
+    refused-5 _ _ (read .read .ensures .0) (framed first) (omega arith) (omega arith) (omega arith) (c .if5 .taken)
 
 some-crossed-requires : tie.Need-some-crossed-requires
 some-crossed-requires c κs = search needs
@@ -56,7 +56,7 @@ returns-6 : tie.Need-returns-6
 returns-6 c =
     let read = c .before .before .before .before in
     let first = read .before .before .before .before in
-    refused-7 _ (framed first) (omega arith) (omega arith) _ (read .read .ensures .0) (omega arith) (omega arith) (sym (c .before .some-crossed .ensures) ∙ c .if6 .taken)
+    refused-7 _ _ (read .read .ensures .0) (framed first) (omega arith) (omega arith) (omega arith) (omega arith) (sym (c .before .some-crossed .ensures) ∙ c .if6 .taken)
 
 sum-uppers-requires : tie.Need-sum-uppers-requires
 sum-uppers-requires c κs = search needs
@@ -67,7 +67,7 @@ returns-7 c =
     let read = sixth .before .before .before .before in
     let first = read .before .before .before .before in
     let bounded = sym (sixth .before .some-crossed .ensures) ∙ sixth .if6 .left in
-    refused-8 _ (framed first) (omega arith) (omega arith) _ (read .read .ensures .0) (omega arith) (omega arith) bounded _ (c .before .sum-uppers .ensures) (omega arith)
+    refused-8 _ _ (read .read .ensures .0) (framed first) (omega arith) (omega arith) (omega arith) (omega arith) bounded _ (c .before .sum-uppers .ensures) (omega arith)
 
 returns-8 : tie.Need-returns-8
 returns-8 c =
@@ -75,7 +75,7 @@ returns-8 c =
     let read = sixth .before .before .before .before in
     let first = read .before .before .before .before in
     let bounded = sym (sixth .before .some-crossed .ensures) ∙ sixth .if6 .left in
-    accepted _ (framed first) (omega arith) (omega arith) _ (read .read .ensures .0) (omega arith) (omega arith) bounded _ (c .before .sum-uppers .ensures) (omega arith)
+    accepted _ _ (read .read .ensures .0) (framed first) (omega arith) (omega arith) (omega arith) (omega arith) bounded _ (c .before .sum-uppers .ensures) (omega arith)
 
 pub read-mask-spec : {M : Type 1} → statement M
 read-mask-spec =
