@@ -1,4 +1,4 @@
--- What a check that doesn't refuse tells.
+-- Which check decides, and what those that pass tell.
 -- Assumes nothing.
 use Prim.Native.Nat.{ℕ, zero, suc, _*_, _≤_, _<_}
 use mathlib.Core.Path.{_≡_, refl, _∙_}

@@ -30,7 +30,7 @@ three-stored l l₁ l₂ l₃ at j x k y n z e₁ e₂ e₃ =
     rw (e₃, e₂, e₁) (rw (length-append, length-bytes j x, length-bytes k y, ← rw (length-bytes j x) at first) at second)
 
 -- from byte 0 on, a run lies over the first bytes
-pub sets-over : (new old : List ℕ) → length new ≤ length old → sets old 0 new ≡ over new old
+sets-over : (new old : List ℕ) → length new ≤ length old → sets old 0 new ≡ over new old
 unfolding over
 sets-over new old h = sets-eq new old 0 (omega arith) ∙ rw zero-add
 

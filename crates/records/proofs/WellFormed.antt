@@ -1,7 +1,7 @@
 -- What the checks leave: a sound automaton, and a mask that fits a record (01, "The four operations"). Nothing else is refused.
 -- Assumes nothing.
 use Prim.Native.Nat.{ℕ, zero, suc, _+_, _*_, _^_, _≤_, _<_}
-use mathlib.Core.Path.{_≡_, refl}
+use mathlib.Core.Path.{_≡_, refl, _∙_}
 use mathlib.Core.Logic.{_↔_, _⊎_, inl, inr, ⊎-elim}
 use mathlib.Core.Bool.{Bool, true, false, not, _&&_, _||_}
 use mathlib.Core.List.{List, [], _∷_}
@@ -17,13 +17,13 @@ use Rattle.model.specs.Legal.{Checked}
 use Rattle.model.specs.Size.{uppers, WellFormed, Fits}
 use Rattle.records.specs.declared.Book.{Book}
 use Rattle.records.specs.Bytes.{Bytes}
-use Rattle.records.specs.Check.{refuse, some, lengthField, kind, unframed}
+use Rattle.records.specs.Check.{some, lengthField, kind, unframed}
 use Rattle.records.specs.Book.{bookHead, movesOf, bookOf, stray, unnamed, bookChecks, bookRefusal}
 use Rattle.records.specs.Mask.{count, blockFrom, blocksFrom, maskOf, crossed, maskRefusal, beyond, foreign}
 use Rattle.records.specs.WellFormed.{Sound, BookRecord, MaskRecord}
 use Rattle.records.proofs.Numbers.{number-lt}
 use Rattle.records.proofs.Offsets.{length-blocks}
-use Rattle.records.proofs.Checks.{peel, neither, framing, in-range, none-from, none-each, none-at, each-map}
+use Rattle.records.proofs.Checks.{peel, off, is, past-three, neither, framing, in-range, none-from, none-each, none-at, each-map}
 
 -- a slice of more than 65,535 bytes is refused by check 1: no length field says so much
 pub too-long : (bs : List ℕ) → Bytes bs → 65535 < length bs → unframed bs ≡ true
@@ -91,22 +91,19 @@ book-record bs h =
 
 -- and no well-formed record is refused
 pub record-book : (bs : List ℕ) → BookRecord bs → bookRefusal bs ≡ 0
-unfolding movesOf bookChecks refuse
+unfolding movesOf bookChecks
 record-book bs t =
     let b = bookHead bs in
     let s = t .sound in
     let long : 15 ≤ length bs = omega (arith, t .size) in
-    simp (
-      framing bs .1 (omega arith, t .framed),
-      eq-eqb (kind bs) 1 (t .kind),
-      le-ltb (length bs) 15 long,
-      in-range b .1 ((s .some-state, omega (arith, s .states)), (s .some-letter, s .letters)),
-      eq-eqb (length bs) (15 + b .states * b .letters) (t .size),
-      naming b (movesOf bs) .1 (
-        (lt-leb (b .states) (b .start) (s .start), none-from (b .accepting) (b .states) .1 (s .accepting)),
-        none-at (stray (b .states)) (movesOf bs) .1 (λ i l. named (b .states) _ .1 (s .named i l)),
-      ),
-    )
+    let range = in-range b .1 ((s .some-state, omega (arith, s .states)), (s .some-letter, s .letters)) in
+    let bits = none-from (b .accepting) (b .states) .1 (s .accepting) in
+    let moves = none-at (stray (b .states)) (movesOf bs) .1 (λ i l. named (b .states) _ .1 (s .named i l)) in
+    let names = naming b (movesOf bs) .1 ((lt-leb (b .states) (b .start) (s .start), bits), moves) in
+    past-three bs 1 15 _ (framing bs .1 (omega arith, t .framed)) (t .kind) long
+    ∙ off _ _ _ range
+    ∙ off _ _ _ (is _ _ (t .size))
+    ∙ off _ _ _ names
 
 -- the dead state is not an accepting one
 pub dead-accepts-nothing : (b : Dfa) → Sound b → ¬ Member (b .table .states) (b .accepting)
@@ -140,27 +137,19 @@ mask-record bs h =
 
 -- and no well-formed record is refused
 pub record-mask : (bs : List ℕ) → MaskRecord bs → maskRefusal bs ≡ 0
-unfolding maskRefusal refuse
+unfolding maskRefusal
 record-mask bs t =
-    simp (
-      framing bs .1 (omega arith, t .framed),
-      eq-eqb (kind bs) 2 (t .kind),
-      le-ltb (length bs) 6 (omega arith),
-      le-ltb 1024 (count bs) (t .few),
-      eq-eqb (length bs) (6 + 12 * count bs) (t .size),
-      uncrossed (maskOf bs) .1 (t .bounds),
-      le-ltb 1024 (uppers (maskOf bs)) (t .sum),
-    )
-
--- l ≤ u in each block of a mask that is not refused
-pub mask-bounded : (bs : List ℕ) → maskRefusal bs ≡ 0 → Each Bounded (maskOf bs)
-mask-bounded bs h = mask-record bs h .bounds
+    past-three bs 2 6 _ (framing bs .1 (omega arith, t .framed)) (t .kind) (omega arith)
+    ∙ off _ _ _ (le-ltb 1024 (count bs) (t .few))
+    ∙ off _ _ _ (is _ _ (t .size))
+    ∙ off _ _ _ (uncrossed (maskOf bs) .1 (t .bounds))
+    ∙ off _ _ _ (le-ltb 1024 (uppers (maskOf bs)) (t .sum))
 
 -- the hypotheses of demand 3, for a book and a mask that are not refused
 pub checked : (bs ms : List ℕ) → bookRefusal bs ≡ 0 → maskRefusal ms ≡ 0 → Checked (bookOf bs) (maskOf ms)
 checked bs ms h l =
     let s = book-record bs h .sound in
-    record { states = s .states; start = s .start; bounds = mask-bounded ms l }
+    record { states = s .states; start = s .start; bounds = mask-record ms l .bounds }
 
 -- the set of a block is 8 bytes
 each-bytes : (bs : List ℕ) → Bytes bs → (k i : ℕ) → Each (λ x. x .base < 2 ^ 64) (blocksFrom k bs i)
@@ -195,4 +184,4 @@ record-fits m ms h r f =
 -- every letter is below 64, so every mask that is not refused fits one
 pub record-fits-64 : (ms : List ℕ) → Bytes ms → maskRefusal ms ≡ 0 → Fits 64 (maskOf ms)
 record-fits-64 ms h r =
-    record-fits 64 ms h r (none-foreign 64 (maskOf ms) .1 (each-map Bounded (Native 64) (λ x b c m. m .small) (maskOf ms) (mask-bounded ms r)))
+    record-fits 64 ms h r (none-foreign 64 (maskOf ms) .1 (each-map Bounded (Native 64) (λ x b c m. m .small) (maskOf ms) (mask-record ms r .bounds)))
