@@ -24,10 +24,10 @@ wide-requires : tie.Need-wide-requires
 wide-requires c κs = search needs
 
 returns : tie.Need-returns
-returns c = next-names _ _ _ _ _ (omega arith) (omega arith) _ (c .before .wide .ensures .0) (c .if1 .taken)
+returns c = next-names _ _ _ _ _ (omega arith) (omega arith) _ (c .before .wide .ensures .0) (omega arith)
 
 returns-2 : tie.Need-returns-2
-returns-2 c = next-dead _ _ _ _ _ (omega arith) (omega arith) _ (c .before .wide .ensures .0) (c .if1 .left)
+returns-2 c = next-dead _ _ _ _ _ (omega arith) (omega arith) _ (c .before .wide .ensures .0) (omega arith)
 
 pub next-state-spec : {M : Type 1} → statement M
 next-state-spec =
