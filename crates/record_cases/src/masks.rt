@@ -1,6 +1,4 @@
 // The commands on a kind 2 record (a mask).
-ghost use Prim.Native.Nat.{_≤_};
-ghost use lib.ListN.{length};
 ghost use Rattle.record_cases.specs.Holds.{Holds};
 use crate::show;
 use model::Block;
@@ -78,31 +76,10 @@ fn comes_back(bytes: &[u8], blocks: usize) -> bool
     let mut bases = [0u64; 1024];
     let mut lowers = [0u16; 1024];
     let mut uppers = [0u16; 1024];
-    copy_blocks(bytes, blocks, &mut bases, &mut lowers, &mut uppers);
+    records::read_blocks(bytes, blocks, &mut bases, &mut lowers, &mut uppers);
     let mut out = [0xEEu8; 12300];
     let size = records::write_mask(&bases, &lowers, &uppers, blocks, &mut out);
     check::same(bytes, &out[0..size]) && untouched(&out[size..])
-}
-
-// Copies the sets and the bounds of the blocks into three slices.
-fn copy_blocks(
-    bytes: &[u8],
-    blocks: usize,
-    bases: &mut [u64],
-    lowers: &mut [u16],
-    uppers: &mut [u16],
-)
-    requires { ⌜ Holds (now bytes) blocks ⌝ }
-    requires { ⌜ (blocks ≤ length (now bases)) × (blocks ≤ length (now lowers)) × (blocks ≤ length (now uppers)) ⌝ }
-{
-    let mut i = 0;
-    while i < blocks {
-        let block = records::read_block(bytes, i);
-        bases[i] = block.base;
-        lowers[i] = block.lower;
-        uppers[i] = block.upper;
-        i += 1;
-    }
 }
 
 // Whether each byte is the one that the answer buffer is filled with.

@@ -8,6 +8,7 @@ pub mod WellFormed
 pub mod Over
 pub mod RoundTrip
 pub mod Stores
+pub mod Copies
 pub mod Steps
 pub mod Walk
 pub mod Next

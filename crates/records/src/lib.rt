@@ -124,6 +124,30 @@ pub fn read_block(bytes: &[u8], i: usize) -> Block
     blocks::block_from(bytes, 6 + 12 * i)
 }
 
+// Copies the sets and the bounds of a mask's blocks into the first entries of three slices.
+pub fn read_blocks(
+    bytes: &[u8],
+    blocks: usize,
+    bases: &mut [u64],
+    lowers: &mut [u16],
+    uppers: &mut [u16],
+)
+    requires { ⌜ (blocks ≡ count (now bytes)) × (6 + 12 * blocks ≤ length (now bytes)) ⌝ }
+    requires { ⌜ Enough (now bases) (now lowers) (now uppers) blocks ⌝ }
+    ensures { λ _. ⌜ (
+        let copied = blocksOf (now (bases .exit)) (now (lowers .exit)) (now (uppers .exit)) blocks in
+        copied ≡ maskOf (now (bytes .entry))) ⌝ }
+{
+    let mut i = 0;
+    while i < blocks {
+        let block = read_block(bytes, i);
+        bases[i] = block.base;
+        lowers[i] = block.lower;
+        uppers[i] = block.upper;
+        i += 1;
+    }
+}
+
 // Check 9: whether some set of a mask has a letter that is `letters` or above.
 pub fn some_foreign(bytes: &[u8], blocks: usize, letters: usize) -> bool
     requires { ⌜ (blocks ≡ count (now bytes)) × (6 + 12 * blocks ≤ length (now bytes)) ⌝ }
