@@ -2,14 +2,16 @@
 -- Assumes nothing.
 use mathlib.Core.Path.{_≡_, refl}
 use mathlib.Core.List.{List}
-use Prim.Native.Nat.{ℕ, zero, suc, _<_}
+use Prim.Native.Nat.{ℕ, zero, suc, _+_, _*_, _≤_, _<_}
 use native.Mathlib.Omega.{arith}
+use lib.ListN.{length}
 use Rattle.records.specs.declared.Book.{Book}
 use Rattle.records.specs.declared.BookOrRefusal.the-variants as bookAnswer
 use Rattle.records.specs.declared.Mask.{Mask}
 use Rattle.records.specs.declared.MaskOrRefusal.the-variants as maskAnswer
 use Rattle.records.specs.Book.{bookHead, bookOr, bookRefusal, readBook}
-use Rattle.records.specs.Mask.{maskHead, maskOr, maskRefusal, readMask}
+use Rattle.records.specs.Mask.{count, maskHead, maskOr, maskRefusal, readMask}
+use Rattle.records.proofs.WellFormed.{mask-record}
 
 -- a book: no check refused it, and these are its numbers
 pub book-accepted : (bs : List ℕ) (b : Book) → readBook bs ≡ bookAnswer.Accepted b → (bookRefusal bs ≡ 0) × (b ≡ bookHead bs)
@@ -46,3 +48,10 @@ mask-refused bs n = go (maskRefusal bs)
     go : (r : ℕ) → maskOr (maskHead bs) r ≡ maskAnswer.Refused n → (r ≡ n) × (0 < n)
     go zero e = absurd (let z : _≡_ {A = ℕ} 0 1 = cc in omega arith)
     go (suc r) e = let same : suc r ≡ n = cc in (same, omega arith)
+
+-- and it holds the bytes of as many blocks as it says
+pub mask-holds : (bs : List ℕ) (x : Mask) → readMask bs ≡ maskAnswer.Accepted x → (x .blocks ≡ count bs) × (6 + 12 * x .blocks ≤ length bs)
+mask-holds bs x h =
+    let (none, head) = mask-accepted bs x h in
+    let r = mask-record bs none in
+    rw head (refl, omega (arith, r .size))

@@ -71,3 +71,8 @@ bookOr b (suc r) = Refused (suc r)
 -- a slice of bytes as a book, or its refusal
 unfoldable pub readBook : List ℕ → BookOrRefusal
 readBook bs = bookOr (bookHead bs) (bookRefusal bs)
+
+-- the refusal number of an answer, 0 for a book
+abbrev pub bookNumber : BookOrRefusal → ℕ
+bookNumber (Accepted b) = 0
+bookNumber (Refused r) = r

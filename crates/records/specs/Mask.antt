@@ -60,6 +60,11 @@ maskOr x (suc r) = Refused (suc r)
 unfoldable pub readMask : List ℕ → MaskOrRefusal
 readMask bs = maskOr (maskHead bs) (maskRefusal bs)
 
+-- the refusal number of an answer, 0 for a mask
+abbrev pub maskNumber : MaskOrRefusal → ℕ
+maskNumber (Accepted x) = 0
+maskNumber (Refused r) = r
+
 -- the block's set has a letter m or above
 abbrev pub beyond : ℕ → Block → Bool
 beyond m x = someFrom (x .base) m

@@ -1,7 +1,7 @@
 -- A mask written as a kind 2 record (01, "Records").
-use Prim.Native.Nat.{ℕ, _+_, _*_, _≤_}
+use Prim.Native.Nat.{ℕ, _+_, _-_, _*_, _≤_}
 use mathlib.Core.List.{List, [], _∷_, _++_}
-use lib.ListN.{length, getD}
+use lib.ListN.{length, getD, drop}
 use Rattle.model.specs.declared.Block.{Block}
 use Rattle.model.specs.DashedString.{block, values}
 use Rattle.records.specs.Bytes.{bytesOf}
@@ -30,6 +30,10 @@ numbered bases lowers uppers i = block (getD bases i 0) (getD lowers i 0) (getD 
 -- the first k blocks of three lists
 abbrev pub blocksOf : List ℕ → List ℕ → List ℕ → ℕ → List Block
 blocksOf bases lowers uppers k = values (numbered bases lowers uppers) k
+
+-- the blocks of three lists from entry i up to end
+abbrev pub blocksBetween : List ℕ → List ℕ → List ℕ → ℕ → ℕ → List Block
+blocksBetween bases lowers uppers i end = blocksOf (drop i bases) (drop i lowers) (drop i uppers) (end - i)
 
 -- three lists of at least k elements
 abbrev pub Enough : List ℕ → List ℕ → List ℕ → ℕ → Type 0

@@ -1,0 +1,2 @@
+-- What one step of making the normal form does.
+pub mod Pushed
