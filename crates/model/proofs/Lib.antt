@@ -9,6 +9,7 @@ pub mod Segments
 pub mod Cut
 pub mod Entry
 pub mod Listed
+pub mod Membership
 pub mod NormalForm
 pub mod Room
 pub mod Demand3

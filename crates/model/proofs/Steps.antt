@@ -3,19 +3,20 @@
 -- Assumes nothing.
 use mathlib.Core.Path.{_≡_, refl, sym}
 use mathlib.Core.Logic.{_↔_, _⊎_, ⊎-elim, inl, inr}
-use mathlib.Core.Bool.{Bool, true, false, cond, _&&_}
+use mathlib.Core.Bool.{Bool, true, false}
 use mathlib.Core.List.{List, [], _∷_, _++_}
-use Prim.Native.Nat.{ℕ, zero, suc, _+_, _*_, _^_, _≤_, _<_, zero-le}
+use Prim.Native.Nat.{ℕ, zero, suc, _+_, _^_, _≤_, _<_, zero-le}
 use native.Mathlib.Nat.{eq-or-lt-of-le, add-zero, zero-add}
 use native.Mathlib.Decide.{le-ind}
 use native.Mathlib.Omega.{arith}
-use lib.Dec.{T, ltb, ltb→lt}
-use lib.ListN.{length, getD, replicate, length-append}
+use lib.Dec.{T}
+use lib.ListN.{length, replicate, length-append}
 use Rattle.model.specs.Set.{has, Member, someMember}
 use Rattle.model.specs.DashedString.{Within, nil, cons}
 use Rattle.model.specs.Automaton.{Table, next, run}
 use Rattle.model.specs.Passes.{mandatory, reach, after, before, between, rounds, atMost, toEnd, first, fewest, forward, final}
-use Rattle.model.proofs.Set.{T-and, member, in-one, one-in, in-either, some-member, in-members, in-union, in-related, members-bytes}
+use Rattle.model.proofs.Set.{member, in-one, one-in, in-either, some-member, in-members, in-union, in-related, members-bytes}
+use Rattle.model.proofs.Automaton.{next-le}
 use Rattle.model.proofs.Words.{within-append, run-append}
 
 -- ---- the first that passes
@@ -103,15 +104,7 @@ Leads t S R E d q = (p : List ℕ) × Within S p × (length p ≤ d) × Stays t 
 module _ (t : Table) (fits : t .states < 64) where
   -- a move leads to a state or to the dead state, and these have numbers below 64
   next-small : (q c : ℕ) → next t q c < 64
-  unfolding next
-  next-small q c =
-      let r = getD (t .moves) (q * t .letters + c) 0 in
-      let named = ltb q (t .states) && ltb c (t .letters) in
-      pick (named && ltb r (t .states)) r (λ h. omega (arith, ltb→lt r (t .states) (T-and named (ltb r (t .states)) .0 h .1)))
-    where
-      pick : (v : Bool) (r : ℕ) → (T v → r < 64) → cond v r (t .states) < 64
-      pick true r h = h tt
-      pick false r h = fits
+  next-small q c = omega (arith, next-le t q c)
 
   -- ---- one letter
 

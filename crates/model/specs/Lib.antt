@@ -2,6 +2,7 @@
 pub mod Set
 pub mod DashedString
 pub mod Automaton
+pub mod Membership
 pub mod Legal
 pub mod Passes
 pub mod NormalForm

@@ -1,0 +1,18 @@
+-- `fekhvina::entries::fekhvina_try_mask` meets its contract. Assumes nothing.
+use Rattle.fekhvina.specs.Try.{tryNumbers}
+use Rattle.fekhvina.proofs.Trying.{try-number}
+use borrow.Author.Needs.{needs}
+use Rattle.fekhvina.proofs.entries.fekhvina_try_mask.Statement.{statement}
+use Rattle.fekhvina.proofs.entries.fekhvina_try_mask.Tie as tie
+
+try-code-requires : tie.Need-try-code-requires
+try-code-requires c κs = search needs
+
+try-mask-requires : tie.Need-try-mask-requires
+try-mask-requires c κs = search needs
+
+returns : tie.Need-returns
+returns c = try-number (λ a. tryNumbers a .mask) _ _ _ _ _ (c .before .try-code .ensures) (c .try-mask .ensures)
+
+pub fekhvina-try-mask-spec : {M : Type 1} → statement M
+fekhvina-try-mask-spec = tie.close (tie.spec try-code-requires try-mask-requires returns)

@@ -1,0 +1,121 @@
+// The entries that a C host calls, one for each number of an answer. Each does the whole operation. include/fekhvina.h
+// declares them.
+ghost use mathlib.Core.Path.{_≡_};
+ghost use lib.ListN.{length};
+ghost use Rattle.fekhvina.specs.Tidy.{tidied, tidyNumbers, Tidies};
+ghost use Rattle.fekhvina.specs.Try as number;
+ghost use Rattle.fekhvina.specs.Try.{tried, tryNumbers, Tries};
+use crate::TidyAnswer;
+use crate::TryAnswer;
+use crate::tidy;
+use crate::try_code;
+
+// The refusal number of tidy's answer, 0 for none.
+fn tidy_refusal(answer: TidyAnswer) -> u32
+    ensures { λ r. ⌜ r ≡ tidyNumbers answer .refusal ⌝ }
+{
+    match answer {
+        TidyAnswer::Written(_) => 0,
+        TidyAnswer::Refused(number) => number,
+    }
+}
+
+// The bytes written of tidy's answer, 0 where refused.
+fn tidy_bytes(answer: TidyAnswer) -> u32
+    ensures { λ r. ⌜ r ≡ tidyNumbers answer .bytes ⌝ }
+{
+    match answer {
+        TidyAnswer::Written(bytes) => bytes,
+        TidyAnswer::Refused(_) => 0,
+    }
+}
+
+// Tidy's refusal number.
+#[no_mangle]
+pub extern "C" fn fekhvina_tidy_refusal(mask: &[u8], out: &mut [u8]) -> u32
+    ensures { λ r. ⌜ (
+        let answer = tidied (now (mask .entry)) (length (now (out .entry))) in
+        (r ≡ tidyNumbers answer .refusal) × Tidies (now (mask .entry)) (now (out .entry)) (now (out .exit)) answer) ⌝ }
+{
+    tidy_refusal(tidy(mask, out))
+}
+
+// The bytes that tidy wrote.
+#[no_mangle]
+pub extern "C" fn fekhvina_tidy_bytes(mask: &[u8], out: &mut [u8]) -> u32
+    ensures { λ r. ⌜ (
+        let answer = tidied (now (mask .entry)) (length (now (out .entry))) in
+        (r ≡ tidyNumbers answer .bytes) × Tidies (now (mask .entry)) (now (out .entry)) (now (out .exit)) answer) ⌝ }
+{
+    tidy_bytes(tidy(mask, out))
+}
+
+// The refusal number of try's answer, 0 for none.
+fn try_refusal(answer: TryAnswer) -> u32
+    ensures { λ r. ⌜ r ≡ tryNumbers answer .refusal ⌝ }
+{
+    match answer {
+        TryAnswer::Tried { mask: _, book: _ } => 0,
+        TryAnswer::Refused(number) => number,
+    }
+}
+
+// Whether the mask spells the code, of try's answer: yes is 1; 0 where refused.
+fn try_mask(answer: TryAnswer) -> u32
+    ensures { λ r. ⌜ r ≡ tryNumbers answer .mask ⌝ }
+{
+    match answer {
+        TryAnswer::Tried { mask, book: _ } => yes(mask),
+        TryAnswer::Refused(_) => 0,
+    }
+}
+
+// Whether the book accepts the code, of try's answer: yes is 1; 0 where refused.
+fn try_book(answer: TryAnswer) -> u32
+    ensures { λ r. ⌜ r ≡ tryNumbers answer .book ⌝ }
+{
+    match answer {
+        TryAnswer::Tried { mask: _, book } => yes(book),
+        TryAnswer::Refused(_) => 0,
+    }
+}
+
+// 1 for yes, 0 for no.
+fn yes(answer: bool) -> u32
+    ensures { λ r. ⌜ r ≡ number.yes answer ⌝ }
+{
+    if answer {
+        return 1;
+    }
+    0
+}
+
+// Try's refusal number.
+#[no_mangle]
+pub extern "C" fn fekhvina_try_refusal(book: &[u8], mask: &[u8], code: &[u8]) -> u32
+    ensures { λ r. ⌜ (
+        let answer = tried (now (book .entry)) (now (mask .entry)) (now (code .entry)) in
+        (r ≡ tryNumbers answer .refusal) × Tries (now (book .entry)) (now (mask .entry)) (now (code .entry)) answer) ⌝ }
+{
+    try_refusal(try_code(book, mask, code))
+}
+
+// Whether the mask spells the code.
+#[no_mangle]
+pub extern "C" fn fekhvina_try_mask(book: &[u8], mask: &[u8], code: &[u8]) -> u32
+    ensures { λ r. ⌜ (
+        let answer = tried (now (book .entry)) (now (mask .entry)) (now (code .entry)) in
+        (r ≡ tryNumbers answer .mask) × Tries (now (book .entry)) (now (mask .entry)) (now (code .entry)) answer) ⌝ }
+{
+    try_mask(try_code(book, mask, code))
+}
+
+// Whether the book accepts the code.
+#[no_mangle]
+pub extern "C" fn fekhvina_try_book(book: &[u8], mask: &[u8], code: &[u8]) -> u32
+    ensures { λ r. ⌜ (
+        let answer = tried (now (book .entry)) (now (mask .entry)) (now (code .entry)) in
+        (r ≡ tryNumbers answer .book) × Tries (now (book .entry)) (now (mask .entry)) (now (code .entry)) answer) ⌝ }
+{
+    try_book(try_code(book, mask, code))
+}

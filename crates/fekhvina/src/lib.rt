@@ -1,0 +1,66 @@
+// The operations of document 01 on records, and the entries that a C host calls. What they answer, write and mean stands in
+// specs/.
+ghost use Rattle.fekhvina.specs.Tidy.{Tidies};
+ghost use Rattle.fekhvina.specs.Try.{Tries};
+
+mod answer;
+pub mod entries;
+mod pair;
+
+use answer::write_tidied;
+use pair::PairOrRefusal;
+use pair::mask_number;
+use pair::pair_number;
+use pair::read_pair;
+use records::MaskOrRefusal;
+
+// What tidy answers: the bytes written, or the refusal.
+pub enum TidyAnswer {
+    Written(u32),
+    Refused(u32),
+}
+
+// What try answers: whether the mask spells the code and whether the book accepts it, or the refusal.
+pub enum TryAnswer {
+    Tried { mask: bool, book: bool },
+    Refused(u32),
+}
+
+// Tidy: writes the normal form of a mask over the first bytes of `out`. Mask checks, then 10.
+pub fn tidy(mask: &[u8], out: &mut [u8]) -> TidyAnswer
+    ensures { λ r. ⌜ Tidies (now (mask .entry)) (now (out .entry)) (now (out .exit)) r ⌝ }
+{
+    let got = records::read_mask(mask);
+    let MaskOrRefusal::Accepted(head) = got else {
+        return TidyAnswer::Refused(mask_number(got));
+    };
+    let mut bases = [0u64; 1024];
+    let mut lowers = [0u16; 1024];
+    let mut uppers = [0u16; 1024];
+    let size = write_tidied(mask, head.blocks, &mut bases, &mut lowers, &mut uppers, out);
+    if size == 0 {
+        return TidyAnswer::Refused(10);
+    }
+    TidyAnswer::Written(size)
+}
+
+// Try: whether the mask spells a code, one letter number a byte, and whether the book accepts it. Book checks, mask checks,
+// 9, 12, 13.
+pub fn try_code(book: &[u8], mask: &[u8], code: &[u8]) -> TryAnswer
+    ensures { λ r. ⌜ Tries (now (book .entry)) (now (mask .entry)) (now (code .entry)) r ⌝ }
+{
+    let got = read_pair(book, mask);
+    let PairOrRefusal::Accepted(pair) = got else {
+        return TryAnswer::Refused(pair_number(got));
+    };
+    if 1024 < code.len() {
+        return TryAnswer::Refused(12);
+    }
+    if membership::some_strange(code, pair.book.letters) {
+        return TryAnswer::Refused(13);
+    }
+    TryAnswer::Tried {
+        mask: membership::spells(mask, pair.mask.blocks, code),
+        book: membership::accepts(pair.book, &book[15..], code),
+    }
+}

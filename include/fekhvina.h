@@ -1,0 +1,66 @@
+/*
+ * Fekhvina, a mask narrower that is proved right: the operations of document 01 on numbers and byte slices.
+ *
+ * Link with target/staticlib/libfekhvina.a, which `make lib` writes once every function in it is proved.
+ *
+ * What holds of every function here:
+ * - It is total: any bytes, any lengths, any numbers. It keeps nothing between calls and takes no memory but its stack.
+ * - Each number of an answer comes from a call of its own, and each call does the whole operation, its writing included.
+ * - A refused call touches no byte of the answer buffer, and its other numbers are 0. The refusal is the first check that
+ *   fails, in the order that is given; README.md says what each number means.
+ * - Bytes of the answer buffer behind what was written keep their contents.
+ * - A slice is a pointer and a length. An empty slice may be a null pointer. The answer buffer may not overlap the other
+ *   slices.
+ */
+#ifndef FEKHVINA_H
+#define FEKHVINA_H
+
+#include <stddef.h>
+#include <stdint.h>
+
+#ifdef __cplusplus
+extern "C" {
+#endif
+
+/*
+ * Tidy: writes the normal form of a mask, as a mask record, over the first bytes of the answer buffer. It drops blocks that
+ * spell only the empty row, then joins neighbours with equal sets; it spells exactly what the mask spells.
+ *
+ * Refusals, in order: 1, 2, 3, 4, 5, 7, 8 (the mask), 10 (the answer buffer is shorter than the answer).
+ * Touches: the first 6 + 12 * blocks bytes of out, where nothing is refused. An answer is never longer than the mask.
+ * Cost: one step for each block. Stack: under 16 kB.
+ */
+
+/* The refusal number, 0 for none. */
+uint32_t fekhvina_tidy_refusal(const uint8_t *mask, size_t mask_len, uint8_t *out, size_t out_len);
+
+/* The number of bytes written, 0 where refused. */
+uint32_t fekhvina_tidy_bytes(const uint8_t *mask, size_t mask_len, uint8_t *out, size_t out_len);
+
+/*
+ * Try: whether the mask spells a code, and whether the book accepts it. A code has one letter number a byte. The two answers
+ * do not depend on each other.
+ *
+ * Refusals, in order: 1 to 6 (the book), 1, 2, 3, 4, 5, 7, 8 (the mask), 9 (a set with a letter that the book lacks), 12 (a
+ * code over 1,024 letters), 13 (a letter that the book lacks).
+ * Touches: nothing.
+ * Cost: one step for each pair of a block and a position of the code, and one for each letter. Stack: under 8 kB.
+ */
+
+/* The refusal number, 0 for none. */
+uint32_t fekhvina_try_refusal(const uint8_t *book, size_t book_len, const uint8_t *mask, size_t mask_len,
+                              const uint8_t *code, size_t code_len);
+
+/* 1 where the mask spells the code, 0 where it does not or the call is refused. */
+uint32_t fekhvina_try_mask(const uint8_t *book, size_t book_len, const uint8_t *mask, size_t mask_len,
+                           const uint8_t *code, size_t code_len);
+
+/* 1 where the book accepts the code, 0 where it does not or the call is refused. */
+uint32_t fekhvina_try_book(const uint8_t *book, size_t book_len, const uint8_t *mask, size_t mask_len,
+                           const uint8_t *code, size_t code_len);
+
+#ifdef __cplusplus
+}
+#endif
+
+#endif
