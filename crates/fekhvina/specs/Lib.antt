@@ -3,3 +3,4 @@ pub mod Pair
 pub mod Buffer
 pub mod Tidy
 pub mod Try
+pub mod Samples

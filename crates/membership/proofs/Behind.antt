@@ -10,8 +10,7 @@ use lib.Seq.{take-append-seam, drop-append-seam, length-take-le, take-take, getD
 use Rattle.model.specs.declared.Block.{Block}
 use Rattle.model.specs.Set.{Member}
 use Rattle.model.specs.DashedString.{Within, nil, cons, Piece, Matches}
-use Rattle.model.proofs.Words.{Concat, matches-cons}
-use Rattle.model.proofs.Membership.{matches-nil}
+use Rattle.model.proofs.Words.{Concat, matches-nil, matches-cons}
 
 -- a word of a mask with a block behind is a word of the mask and behind it a piece of the block
 matches-behind : (xs : List Block) (x : Block) (w : List ℕ) → Matches (xs ++ x ∷ []) w ↔ Concat (Matches xs) (Piece x) w

@@ -13,17 +13,11 @@ use lib.Seq.{length-take-le, take-all, take-length, take-suc, getD-set-same, get
 use Rattle.model.specs.declared.Block.{Block}
 use Rattle.model.specs.DashedString.{block, blockAt, Matches}
 use Rattle.model.specs.Membership.{spells}
-use Rattle.model.proofs.Membership.{matches-nil, spells-exact}
-use Rattle.records.specs.Mask.{count, maskOf}
-use Rattle.records.proofs.Offsets.{length-blocks}
+use Rattle.model.proofs.Words.{matches-nil}
+use Rattle.model.proofs.Membership.{spells-exact}
 use Rattle.bitset.proofs.Laws.{same-test}
 use Rattle.membership.specs.Marks.{marked, Extends, Marks}
 use Rattle.membership.proofs.Behind.{behind-at}
-
--- a mask has as many blocks as its record says
-pub length-mask : (bs : List ℕ) → length (maskOf bs) ≡ count bs
-unfolding maskOf
-length-mask bs = length-blocks (count bs) bs 6
 
 -- one block more
 marks-more : (xs : List Block) (x : Block) (w : List ℕ) (from to : List Bool) → Marks xs w from → Extends x w from to
@@ -57,12 +51,12 @@ comparing-starts xs w n h = record { size = rw (length-set, length-replicate); e
 
 module _ (xs : List Block) (w : List ℕ) (n : ℕ) (marks : List Bool) (i : ℕ) (comparing : Comparing xs w n marks i) where
   -- one block more
-  pub comparing-more : (x : Block) (to : List Bool) → i < length xs → x ≡ blockAt xs i → length to ≡ n → Extends x w marks to
-      → Comparing xs w n to (i + 1)
-  comparing-more x to h e l s =
+  pub comparing-more : (x : Block) (to : List Bool) (next : ℕ) → next ≡ i + 1 → i < length xs → x ≡ blockAt xs i → length to ≡ n → Extends x w marks to
+      → Comparing xs w n to next
+  comparing-more x to next step h e l s =
       record {
         size = l;
-        exact = rw (add-one i, take-suc xs i (block 0 0 0) h, ← e) (marks-more (take i xs) x w marks to (comparing .exact) s);
+        exact = rw (step, add-one i, take-suc xs i (block 0 0 0) h, ← e) (marks-more (take i xs) x w marks to (comparing .exact) s);
       }
 
   -- all are: the last position tells

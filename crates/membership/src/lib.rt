@@ -11,6 +11,7 @@ ghost use Rattle.membership.specs.Word.{strange, Letters};
 mod following;
 mod marking;
 
+use marking::extend;
 use records::Book;
 
 // Check 13: whether the word has a letter that is `letters` or above.
@@ -28,19 +29,29 @@ pub fn some_strange(word: &[u8], letters: usize) -> bool
 }
 
 // Whether the mask spells the word. No cut is tried after another: block by block, it marks the positions of the word up to
-// which the blocks so far spell it.
+// which the blocks so far spell it, in two arrays by turns.
 pub fn spells(mask: &[u8], blocks: usize, word: &[u8]) -> bool
     requires { ⌜ (blocks ≡ count (now mask)) × (6 + 12 * blocks ≤ length (now mask)) ⌝ }
     requires { ⌜ (length (now word) ≤ 1024) × Letters 64 (now word) ⌝ }
     ensures { λ r. ⌜ r ≡ spec.spells (maskOf (now (mask .entry))) (now (word .entry)) ⌝ }
 {
     let mut marks = [false; 1025];
+    let mut others = [false; 1025];
     marks[0] = true;
     let mut done = 0;
-    while done < blocks {
-        let before = marks;
-        marking::extend(word, records::read_block(mask, done), &before, &mut marks);
-        done += 1;
+    while 1 < blocks - done {
+        extend(word, records::read_block(mask, done), &marks, &mut others);
+        extend(
+            word,
+            records::read_block(mask, done + 1),
+            &others,
+            &mut marks,
+        );
+        done += 2;
+    }
+    if done < blocks {
+        extend(word, records::read_block(mask, done), &marks, &mut others);
+        return others[word.len()];
     }
     marks[word.len()]
 }

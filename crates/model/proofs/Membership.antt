@@ -4,18 +4,18 @@ use Prim.Native.Nat.{ℕ, suc}
 use mathlib.Core.Path.{_≡_, ap}
 use mathlib.Core.Logic.{_↔_}
 use mathlib.Core.Bool.{Bool, _&&_}
-use mathlib.Core.List.{List, [], _∷_, _++_, flatten}
+use mathlib.Core.List.{List, [], _∷_, _++_}
 use native.Mathlib.Omega.{arith}
 use lib.Dec.{T, ltb, leb, eqb→eq, ltb→lt, lt→ltb, leb→le, le→leb}
 use lib.ListN.{length, take, drop, length-append, take-append-drop, drop-of-length-le}
 use lib.Seq.{take-append-seam, drop-append-seam}
 use Rattle.model.specs.declared.Block.{Block}
 use Rattle.model.specs.Set.{has, Member, someBelow}
-use Rattle.model.specs.DashedString.{Within, nil, cons, Piece, Factorization, done, Matches}
+use Rattle.model.specs.DashedString.{Within, nil, cons, Piece, Matches}
 use Rattle.model.specs.Automaton.{Dfa, Accepts, run}
 use Rattle.model.specs.Membership.{contains, within, piece, spells, accepts}
 use Rattle.model.proofs.Set.{T-and, member, some-below}
-use Rattle.model.proofs.Words.{matches-cons}
+use Rattle.model.proofs.Words.{matches-nil, matches-cons}
 
 -- the number is in the set
 pub contains-exact : (s i : ℕ) → T (contains s i) ↔ Member i s
@@ -56,14 +56,6 @@ piece-exact x p = (
 
     few : Bool
     few = leb (length p) (x .upper)
-
--- no block at all spells the empty word alone
-pub matches-nil : (w : List ℕ) → Matches [] w ↔ (w ≡ [])
-unfolding flatten
-matches-nil w = (λ (ps, f, e). out f e, λ e. ([], done, rw e))
-  where
-    out : {ps : List (List ℕ)} → Factorization [] ps → flatten ps ≡ w → w ≡ []
-    out done e = cc
 
 -- the mask spells the word
 pub spells-exact : (xs : List Block) (w : List ℕ) → T (spells xs w) ↔ Matches xs w

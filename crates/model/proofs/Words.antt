@@ -6,7 +6,7 @@ use mathlib.Core.Logic.{_↔_}
 use mathlib.Core.List.{List, [], _∷_, _++_, flatten}
 use Rattle.model.specs.declared.Block.{Block}
 use Rattle.model.specs.Set.{Member}
-use Rattle.model.specs.DashedString.{Within, nil, cons, Piece, Factorization, then, Matches}
+use Rattle.model.specs.DashedString.{Within, nil, cons, Piece, Factorization, done, then, Matches}
 use Rattle.model.specs.Automaton.{Table, next, run}
 use Rattle.model.proofs.Set.{in-none}
 
@@ -34,6 +34,14 @@ within-zero (cons m v) = absurd (in-none m)
 pub run-append : (t : Table) (q : ℕ) (p w : List ℕ) → run t q (p ++ w) ≡ run t (run t q p) w
 run-append t q [] w = refl
 run-append t q (c ∷ p) w = run-append t (next t q c) p w
+
+-- no block at all spells the empty word alone
+pub matches-nil : (w : List ℕ) → Matches [] w ↔ (w ≡ [])
+unfolding flatten
+matches-nil w = (λ (ps, f, e). out f e, λ e. ([], done, rw e))
+  where
+    out : {ps : List (List ℕ)} → Factorization [] ps → flatten ps ≡ w → w ≡ []
+    out done e = cc
 
 -- a word of the one language, and behind it a word of the other
 abbrev pub Concat : (List ℕ → Type 0) → (List ℕ → Type 0) → List ℕ → Type 0

@@ -13,7 +13,7 @@ use Rattle.model.specs.declared.Block.{Block}
 use Rattle.model.specs.DashedString.{blockAt, values}
 use Rattle.records.specs.Mask.{count, maskOf}
 use Rattle.records.specs.Written.{numbered, Enough}
-use Rattle.records.proofs.Offsets.{length-blocks}
+use Rattle.records.proofs.Offsets.{blocks-counted}
 
 -- values that are the blocks of a mask, each at its number, are the mask
 pub values-are : (xs : List Block) (f : ℕ → Block) → ((j : ℕ) → j < length xs → f j ≡ blockAt xs j) → values f (length xs) ≡ xs
@@ -55,7 +55,6 @@ module _ (xs : List Block) (k : ℕ) (b₀ l₀ u₀ b l u : List ℕ) (i : ℕ)
 -- all are copied
 pub copying-ends : (bs : List ℕ) (k : ℕ) (b₀ l₀ u₀ b l u : List ℕ) (i : ℕ) → Copying (maskOf bs) k b₀ l₀ u₀ b l u i → k ≡ count bs → k ≤ i
     → values (numbered b l u) k ≡ maskOf bs
-unfolding maskOf
 copying-ends bs k b₀ l₀ u₀ b l u i copying e h =
-    let all : length (maskOf bs) ≡ k = rw e (length-blocks (count bs) bs 6) in
+    let all : length (maskOf bs) ≡ k = rw e (blocks-counted bs) in
     rw all at (values-are (maskOf bs) (numbered b l u) (λ j m. copying .same j (omega arith)))

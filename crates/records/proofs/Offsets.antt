@@ -6,13 +6,18 @@ use mathlib.Core.List.{List}
 use native.Mathlib.Omega.{arith}
 use lib.ListN.{length}
 use Rattle.model.specs.DashedString.{blockAt}
-use Rattle.records.specs.Mask.{blockFrom, blocksFrom}
+use Rattle.records.specs.Mask.{count, blockFrom, blocksFrom, maskOf}
 
 -- as many blocks as asked for
 pub length-blocks : (k : ℕ) (bs : List ℕ) (i : ℕ) → length (blocksFrom k bs i) ≡ k
 unfolding blocksFrom
 length-blocks zero bs i = refl
 length-blocks (suc k) bs i = ap suc (length-blocks k bs (i + 12))
+
+-- a mask has as many blocks as its record says
+pub blocks-counted : (bs : List ℕ) → length (maskOf bs) ≡ count bs
+unfolding maskOf
+blocks-counted bs = length-blocks (count bs) bs 6
 
 -- block j is the 12 bytes behind j blocks
 pub block-at : (k : ℕ) (bs : List ℕ) (i j : ℕ) → j < k → blockAt (blocksFrom k bs i) j ≡ blockFrom bs (i + 12 * j)

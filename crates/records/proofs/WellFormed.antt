@@ -22,7 +22,7 @@ use Rattle.records.specs.Book.{bookHead, movesOf, bookOf, stray, unnamed
 use Rattle.records.specs.Mask.{count, blockFrom, blocksFrom, maskOf, crossed, maskRefusal, beyond, foreign}
 use Rattle.records.specs.WellFormed.{Sound, BookRecord, MaskRecord}
 use Rattle.records.proofs.Numbers.{number-lt}
-use Rattle.records.proofs.Offsets.{length-blocks}
+use Rattle.records.proofs.Offsets.{blocks-counted}
 use Rattle.records.proofs.Checks.{peel, off, is, past-three, neither, framing, in-range, none-from, none-each, none-at, each-map}
 
 -- a slice of more than 65,535 bytes is refused by check 1: no length field says so much
@@ -177,7 +177,7 @@ unfolding maskOf
 record-fits m ms h r f =
     let t = mask-record ms r in
     record {
-      few = omega (arith, length-blocks (count ms) ms 6);
+      few = omega (arith, blocks-counted ms);
       room = record { each = formed m (maskOf ms) (t .bounds) (each-bytes ms h (count ms) 6) (none-foreign m (maskOf ms) .0 f); sum = t .sum };
     }
 

@@ -1,0 +1,70 @@
+-- Tidy and try on a few records: what 01 expects of them, and inputs with two faults, of which the first check in order decides.
+use Prim.Native.Nat.{ℕ}
+use mathlib.Core.Path.{_≡_}
+use mathlib.Core.Bool.{true, false}
+use mathlib.Core.List.{List, [], _∷_, _++_}
+use lib.ListN.{length, replicate}
+use Rattle.model.specs.DashedString.{block}
+use Rattle.records.specs.Written.{maskBytes}
+use Rattle.fekhvina.specs.declared.TidyAnswer.{TidyAnswer}
+use Rattle.fekhvina.specs.declared.TidyAnswer.the-variants as tidy
+use Rattle.fekhvina.specs.declared.TryAnswer.{TryAnswer}
+use Rattle.fekhvina.specs.declared.TryAnswer.the-variants as try
+use Rattle.fekhvina.specs.Tidy.{tidied, tidyBuffer}
+use Rattle.fekhvina.specs.Try.{tried}
+
+-- a mask and an answer buffer, with tidy's answer and the buffer behind it; a book, a mask and a code, with try's answer
+pub data Row : Type 0 where
+  tidies : List ℕ → List ℕ → TidyAnswer → List ℕ → Row
+  tries : List ℕ → List ℕ → List ℕ → TryAnswer → Row
+
+-- the definitions give what the row says
+abbrev pub Holds : Row → Type 0
+Holds (tidies ms old a new) = (tidied ms (length old) ≡ a) × (tidyBuffer ms old ≡ new)
+Holds (tries bs ms w a) = tried bs ms w ≡ a
+
+-- each row holds
+abbrev pub AllHold : List Row → Type 0
+AllHold [] = Unit {0}
+AllHold (r ∷ rs) = Holds r × AllHold rs
+
+-- 01's book C: one accepting state, which loops on letters 0, 1
+abbrev pub C : List ℕ
+C = 0x11 ∷ 0 ∷ 1 ∷ 0 ∷ 1 ∷ 2 ∷ 0 ∷ 1 ∷ replicate 7 0 ++ 0 ∷ 0 ∷ []
+
+-- {0} 0–1, {1} 0–0, {0} 0–1 (01, "Faults we would expect")
+abbrev pub apart : List ℕ
+apart = maskBytes (block 0b01 0 1 ∷ block 0b10 0 0 ∷ block 0b01 0 1 ∷ [])
+
+-- {0} 0–2, {0} 1–1 (01, "Faults we would expect")
+abbrev pub greedy : List ℕ
+greedy = maskBytes (block 0b01 0 2 ∷ block 0b01 1 1 ∷ [])
+
+-- a mask with a letter that book C lacks
+abbrev pub foreign : List ℕ
+foreign = maskBytes (block 0b100 0 1 ∷ [])
+
+-- k bytes of 0xEE
+abbrev pub filled : ℕ → List ℕ
+filled k = replicate k 0xEE
+
+-- tidy, then try
+unfoldable pub samples : List Row
+samples =
+    -- joining comes after dropping, and the bytes behind keep their contents; a byte less than needed; a mask cut off, and no byte
+    tidies apart (filled 20) (tidy.Written 18) (maskBytes (block 0b01 0 2 ∷ []) ++ filled 2)
+    ∷ tidies apart (filled 17) (tidy.Refused 10) (filled 17)
+    ∷ tidies (4 ∷ 0 ∷ 2 ∷ 0 ∷ []) [] (tidy.Refused 3) []
+    -- an empty set with l > 0 stays
+    ∷ tidies (maskBytes (block 0 1 1 ∷ [])) (filled 18) (tidy.Written 18) (maskBytes (block 0 1 1 ∷ []))
+    -- not greedy; the two answers, each without the other; the empty code
+    ∷ tries C greedy (0 ∷ 0 ∷ []) (try.Tried true true)
+    ∷ tries C greedy (0 ∷ 1 ∷ []) (try.Tried false true)
+    ∷ tries C greedy [] (try.Tried false true)
+    -- a bad book and a bad mask; a bad mask, too long a code and a strange letter; 9, 12 and 13; 12 and 13; 13
+    ∷ tries [] (4 ∷ 0 ∷ 1 ∷ 0 ∷ []) [] (try.Refused 1)
+    ∷ tries C (4 ∷ 0 ∷ 1 ∷ 0 ∷ []) (replicate 1025 2) (try.Refused 2)
+    ∷ tries C foreign (replicate 1025 2) (try.Refused 9)
+    ∷ tries C greedy (replicate 1025 2) (try.Refused 12)
+    ∷ tries C greedy (0 ∷ 2 ∷ []) (try.Refused 13)
+    ∷ []
