@@ -1,21 +1,32 @@
 CFLAGS = -std=c99 -Wall -Wextra -Wpedantic -Werror -O2 -Iinclude
+LIB = target/staticlib/libfekhvina.a
 HOSTS = target/hosts
 
-.PHONY: check lib hosts test
+.PHONY: run check lib hosts test
+
+# The example host: a mask tidied, a code tried.
+run: $(HOSTS)/example
+	@$(HOSTS)/example
 
 # Proves every crate that changed since it was last proved, and runs the cases.
 check:
 	@rt check
 
-# The archive that a C host links, of functions that are proved: target/staticlib/libfekhvina.a.
+# The archive that a C host links, of functions that are proved.
 lib:
-	@rt staticlib fekhvina
+	@mkdir -p $(HOSTS)
+	@rt staticlib fekhvina > $(HOSTS)/lib.log 2>&1 || { cat $(HOSTS)/lib.log; exit 1; }
 
 # Tries the archive from C. Its last line is 'N passed, 0 failed'.
-hosts: lib
-	@mkdir -p $(HOSTS)
-	@$(CC) $(CFLAGS) -o $(HOSTS)/test_entries hosts/c/test_entries.c hosts/c/lent.c target/staticlib/libfekhvina.a
+hosts: $(HOSTS)/test_entries $(HOSTS)/example
+	@$(HOSTS)/example | diff - hosts/c/example.out
 	@$(HOSTS)/test_entries
+
+$(HOSTS)/test_entries: lib hosts/c/test_entries.c hosts/c/lent.c hosts/c/lent.h include/fekhvina.h
+	@$(CC) $(CFLAGS) -o $@ hosts/c/test_entries.c hosts/c/lent.c $(LIB)
+
+$(HOSTS)/example: lib hosts/c/example.c include/fekhvina.h
+	@$(CC) $(CFLAGS) -o $@ hosts/c/example.c $(LIB)
 
 # The gate, from nothing: proves every crate, tries every must-fail edit, then the hosts' tests. Its last line is
 # 'N passed, 0 failed', with all of them counted.

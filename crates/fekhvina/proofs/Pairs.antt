@@ -1,26 +1,25 @@
 -- What a book and a mask taken together are, by what each reader answers.
 -- Assumes nothing.
-use Prim.Native.Nat.{ℕ, zero, suc, _+_, _*_, _≤_, _<_}
-use mathlib.Core.Path.{_≡_, refl, ap, _∙_, sym}
-use mathlib.Core.Bool.{Bool, true, false}
+use Prim.Native.Nat.{ℕ, zero, suc, _<_}
+use mathlib.Core.Path.{_≡_, refl, _∙_, sym}
+use mathlib.Core.Bool.{true, false}
 use mathlib.Core.List.{List}
 use native.Mathlib.Omega.{arith}
-use lib.ListN.{length}
 use Rattle.records.specs.declared.Book.{Book}
 use Rattle.records.specs.declared.BookOrRefusal.{BookOrRefusal}
 use Rattle.records.specs.declared.BookOrRefusal.the-variants as bookAnswer
 use Rattle.records.specs.declared.Mask.{Mask}
 use Rattle.records.specs.declared.MaskOrRefusal.{MaskOrRefusal}
 use Rattle.records.specs.declared.MaskOrRefusal.the-variants as maskAnswer
-use Rattle.records.specs.Book.{bookHead, bookRefusal, readBook, bookNumber}
-use Rattle.records.specs.Mask.{count, maskHead, maskOf, maskRefusal, readMask, maskNumber, foreign}
+use Rattle.records.specs.Book.{bookRefusal, readBook, bookNumber}
+use Rattle.records.specs.Mask.{maskOf, maskRefusal, readMask, maskNumber, foreign}
 use Rattle.records.specs.WellFormed.{BookRecord, MaskRecord}
 use Rattle.records.proofs.Answers.{book-accepted, book-refused, mask-accepted, mask-refused}
 use Rattle.records.proofs.Checks.{on, off}
 use Rattle.records.proofs.WellFormed.{book-record, mask-record}
 use Rattle.fekhvina.specs.declared.pair.Pair.{Pair}
 use Rattle.fekhvina.specs.declared.pair.PairOrRefusal.the-variants.{Accepted, Refused}
-use Rattle.fekhvina.specs.Pair.{andThen, pairRefusal, pairHead, pairOr, readPair}
+use Rattle.fekhvina.specs.Pair.{pairRefusal, pairHead, pairOr, readPair}
 use Rattle.fekhvina.proofs.Order.{refused-first, passed-first}
 
 -- a refusal is an answer of its own

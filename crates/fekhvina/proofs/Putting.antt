@@ -1,7 +1,7 @@
 -- A record put into the answer buffer, where it has room.
 -- Assumes nothing.
 use Prim.Native.Nat.{ℕ, _+_, _-_, _*_, _≤_, _<_}
-use mathlib.Core.Path.{_≡_, refl, _∙_}
+use mathlib.Core.Path.{_≡_, refl}
 use mathlib.Core.Bool.{Bool, true, false}
 use mathlib.Core.List.{List}
 use native.Mathlib.Omega.{arith}
@@ -9,7 +9,7 @@ use borrow.Author.Tests.{ltb-true, ltb-false}
 use lib.Dec.{ltb}
 use lib.ListN.{length, take, drop}
 use Rattle.records.specs.Bytes.{over}
-use Rattle.records.specs.Written.{maskBytes, numbered, blocksOf, blocksBetween}
+use Rattle.records.specs.Written.{maskBytes, blocksOf, blocksBetween}
 use Rattle.records.proofs.Over.{part-rest}
 use Rattle.records.proofs.RoundTrip.{length-mask}
 use Rattle.records.proofs.Stores.{length-values}

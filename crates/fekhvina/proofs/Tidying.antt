@@ -10,7 +10,7 @@ use Rattle.model.specs.declared.Block.{Block}
 use Rattle.model.specs.NormalForm.{normal}
 use Rattle.model.specs.Size.{Room}
 use Rattle.model.proofs.NormalForm.{normal-spells, normal-reduced}
-use Rattle.model.proofs.Room.{normal-fits}
+use Rattle.model.proofs.Room.{normal-shorter, normal-fits}
 use Rattle.records.specs.declared.Mask.{Mask}
 use Rattle.records.specs.declared.MaskOrRefusal.{MaskOrRefusal}
 use Rattle.records.specs.declared.MaskOrRefusal.the-variants as maskAnswer
@@ -19,13 +19,14 @@ use Rattle.records.specs.Mask.{count, maskOf, maskRefusal, readMask, maskNumber
 use Rattle.records.specs.Written.{maskBytes}
 use Rattle.records.proofs.Answers.{mask-accepted, mask-refused, mask-holds}
 use Rattle.records.proofs.Checks.{on, off}
+use Rattle.records.proofs.Offsets.{blocks-counted}
 use Rattle.records.proofs.Over.{take-over}
 use Rattle.records.proofs.RoundTrip.{length-mask, reads-back}
 use Rattle.records.proofs.WellFormed.{mask-record, record-fits-64}
 use Rattle.fekhvina.specs.declared.TidyAnswer.{TidyAnswer}
 use Rattle.fekhvina.specs.declared.TidyAnswer.the-variants.{Written, Refused}
 use Rattle.fekhvina.specs.Buffer.{Puts}
-use Rattle.fekhvina.specs.Tidy.{tidyRecord, tidyRefusal, tidyOr, tidied, tidyBuffer, Rewrites, Tidies}
+use Rattle.fekhvina.specs.Tidy.{tidyRecord, tidyRefusal, tidyOr, tidied, tidyBuffer, tidyNumbers, Rewrites, Tidies}
 use Rattle.fekhvina.proofs.Order.{refused-first}
 use Rattle.fekhvina.proofs.Putting.{put-nothing, put-all}
 
@@ -112,3 +113,20 @@ module _ (ms old : List ℕ) (got : MaskOrRefusal) (read : got ≡ readMask ms) 
 pub tidy-number : (number : TidyAnswer → ℕ) (ms old new : List ℕ) (a : TidyAnswer) (r : ℕ) → Tidies ms old new a → r ≡ number a
     → (r ≡ number (tidied ms (length old))) × Tidies ms old new (tidied ms (length old))
 tidy-number number ms old new a r t e = rw (← t .answer) (e, t)
+
+-- the refusal number at the host is that of the checks
+pub tidy-refusal-number : (ms : List ℕ) (room : ℕ) → tidyNumbers (tidied ms room) .refusal ≡ tidyRefusal ms room
+unfolding tidied
+tidy-refusal-number ms room = go (tidyRefusal ms room)
+  where
+    go : (r : ℕ) → tidyNumbers (tidyOr (length (tidyRecord ms)) r) .refusal ≡ r
+    go zero = refl
+    go (suc r) = refl
+
+-- an answer buffer as long as the mask always suffices
+pub tidy-suffices : (ms : List ℕ) (room : ℕ) → maskRefusal ms ≡ 0 → length ms ≤ room → tidyRefusal ms room ≡ 0
+unfolding tidyRecord tidyRefusal
+tidy-suffices ms room none h =
+    let size = length-mask (normal (maskOf ms)) in
+    let fits : length (tidyRecord ms) ≤ room = omega (arith, size, normal-shorter (maskOf ms), blocks-counted ms, mask-record ms none .size) in
+    rw none (off _ 10 0 (le-ltb room (length (tidyRecord ms)) fits))

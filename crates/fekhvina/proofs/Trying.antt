@@ -23,7 +23,7 @@ use Rattle.fekhvina.specs.declared.pair.PairOrRefusal.the-variants as pa
 use Rattle.fekhvina.specs.declared.TryAnswer.{TryAnswer}
 use Rattle.fekhvina.specs.declared.TryAnswer.the-variants.{Tried, Refused}
 use Rattle.fekhvina.specs.Pair.{pairRefusal, readPair, pairNumber}
-use Rattle.fekhvina.specs.Try.{tryRefusal, tried, yes, Tries}
+use Rattle.fekhvina.specs.Try.{tryRefusal, tryOr, tried, tryNumbers, yes, Tries}
 use Rattle.fekhvina.proofs.Order.{refused-first}
 use Rattle.fekhvina.proofs.Pairs.{pair-refused, pair-accepted, pair-records}
 
@@ -111,3 +111,12 @@ module _ (bs ms w : List ℕ) (p : Pair) (read : readPair bs ms ≡ pairAnswer.A
 pub try-number : (number : TryAnswer → ℕ) (bs ms w : List ℕ) (a : TryAnswer) (r : ℕ) → Tries bs ms w a → r ≡ number a
     → (r ≡ number (tried bs ms w)) × Tries bs ms w (tried bs ms w)
 try-number number bs ms w a r t e = rw (← t .answer) (e, t)
+
+-- the refusal number at the host is that of the checks
+pub try-refusal-number : (bs ms w : List ℕ) → tryNumbers (tried bs ms w) .refusal ≡ tryRefusal bs ms w
+unfolding tried
+try-refusal-number bs ms w = go (tryRefusal bs ms w)
+  where
+    go : (r : ℕ) → tryNumbers (tryOr (spells (maskOf ms) w) (accepts (bookOf bs) w) r) .refusal ≡ r
+    go zero = refl
+    go (suc r) = refl

@@ -8,7 +8,7 @@ ghost use Rattle.fekhvina.specs.Try.{tried, tryNumbers, Tries};
 use crate::TidyAnswer;
 use crate::TryAnswer;
 use crate::tidy;
-use crate::try_code;
+use crate::try_word;
 
 // The refusal number of tidy's answer, 0 for none.
 fn tidy_refusal(answer: TidyAnswer) -> u32
@@ -92,30 +92,30 @@ fn yes(answer: bool) -> u32
 
 // Try's refusal number.
 #[no_mangle]
-pub extern "C" fn fekhvina_try_refusal(book: &[u8], mask: &[u8], code: &[u8]) -> u32
+pub extern "C" fn fekhvina_try_refusal(book: &[u8], mask: &[u8], word: &[u8]) -> u32
     ensures { λ r. ⌜ (
-        let answer = tried (now (book .entry)) (now (mask .entry)) (now (code .entry)) in
-        (r ≡ tryNumbers answer .refusal) × Tries (now (book .entry)) (now (mask .entry)) (now (code .entry)) answer) ⌝ }
+        let answer = tried (now (book .entry)) (now (mask .entry)) (now (word .entry)) in
+        (r ≡ tryNumbers answer .refusal) × Tries (now (book .entry)) (now (mask .entry)) (now (word .entry)) answer) ⌝ }
 {
-    try_refusal(try_code(book, mask, code))
+    try_refusal(try_word(book, mask, word))
 }
 
 // Whether the mask spells the code.
 #[no_mangle]
-pub extern "C" fn fekhvina_try_mask(book: &[u8], mask: &[u8], code: &[u8]) -> u32
+pub extern "C" fn fekhvina_try_mask(book: &[u8], mask: &[u8], word: &[u8]) -> u32
     ensures { λ r. ⌜ (
-        let answer = tried (now (book .entry)) (now (mask .entry)) (now (code .entry)) in
-        (r ≡ tryNumbers answer .mask) × Tries (now (book .entry)) (now (mask .entry)) (now (code .entry)) answer) ⌝ }
+        let answer = tried (now (book .entry)) (now (mask .entry)) (now (word .entry)) in
+        (r ≡ tryNumbers answer .mask) × Tries (now (book .entry)) (now (mask .entry)) (now (word .entry)) answer) ⌝ }
 {
-    try_mask(try_code(book, mask, code))
+    try_mask(try_word(book, mask, word))
 }
 
 // Whether the book accepts the code.
 #[no_mangle]
-pub extern "C" fn fekhvina_try_book(book: &[u8], mask: &[u8], code: &[u8]) -> u32
+pub extern "C" fn fekhvina_try_book(book: &[u8], mask: &[u8], word: &[u8]) -> u32
     ensures { λ r. ⌜ (
-        let answer = tried (now (book .entry)) (now (mask .entry)) (now (code .entry)) in
-        (r ≡ tryNumbers answer .book) × Tries (now (book .entry)) (now (mask .entry)) (now (code .entry)) answer) ⌝ }
+        let answer = tried (now (book .entry)) (now (mask .entry)) (now (word .entry)) in
+        (r ≡ tryNumbers answer .book) × Tries (now (book .entry)) (now (mask .entry)) (now (word .entry)) answer) ⌝ }
 {
-    try_book(try_code(book, mask, code))
+    try_book(try_word(book, mask, word))
 }

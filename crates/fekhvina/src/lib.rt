@@ -46,21 +46,21 @@ pub fn tidy(mask: &[u8], out: &mut [u8]) -> TidyAnswer
 
 // Try: whether the mask spells a code, one letter number a byte, and whether the book accepts it. Book checks, mask checks,
 // 9, 12, 13.
-pub fn try_code(book: &[u8], mask: &[u8], code: &[u8]) -> TryAnswer
-    ensures { λ r. ⌜ Tries (now (book .entry)) (now (mask .entry)) (now (code .entry)) r ⌝ }
+pub fn try_word(book: &[u8], mask: &[u8], word: &[u8]) -> TryAnswer
+    ensures { λ r. ⌜ Tries (now (book .entry)) (now (mask .entry)) (now (word .entry)) r ⌝ }
 {
     let got = read_pair(book, mask);
     let PairOrRefusal::Accepted(pair) = got else {
         return TryAnswer::Refused(pair_number(got));
     };
-    if 1024 < code.len() {
+    if 1024 < word.len() {
         return TryAnswer::Refused(12);
     }
-    if membership::some_strange(code, pair.book.letters) {
+    if membership::some_strange(word, pair.book.letters) {
         return TryAnswer::Refused(13);
     }
     TryAnswer::Tried {
-        mask: membership::spells(mask, pair.mask.blocks, code),
-        book: membership::accepts(pair.book, &book[15..], code),
+        mask: membership::spells(mask, pair.mask.blocks, word),
+        book: membership::accepts(pair.book, &book[15..], word),
     }
 }

@@ -27,6 +27,17 @@ uppers-normal (drops i n) = omega (arith, uppers-normal n)
 uppers-normal (keeps i a n) = omega (arith, uppers-normal n)
 uppers-normal (joins i e n) = omega (arith, uppers-normal n)
 
+-- no step makes a block more
+length-normal : {xs ys : List Block} → Normalizes xs ys → length ys ≤ length xs
+length-normal nothing = omega arith
+length-normal (drops i n) = omega (arith, length-normal n)
+length-normal (keeps i a n) = omega (arith, length-normal n)
+length-normal (joins i e n) = omega (arith, length-normal n)
+
+-- the normal form has no more blocks than the mask
+pub normal-shorter : (xs : List Block) → length (normal xs) ≤ length xs
+normal-shorter xs = length-normal (normalizes xs)
+
 -- the normal form has room where the mask has
 pub normal-room : (m : ℕ) (xs : List Block) → Room m xs → Room m (normal xs)
 normal-room m xs r =

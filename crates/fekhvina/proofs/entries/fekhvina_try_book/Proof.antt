@@ -5,14 +5,14 @@ use borrow.Author.Needs.{needs}
 use Rattle.fekhvina.proofs.entries.fekhvina_try_book.Statement.{statement}
 use Rattle.fekhvina.proofs.entries.fekhvina_try_book.Tie as tie
 
-try-code-requires : tie.Need-try-code-requires
-try-code-requires c κs = search needs
+try-word-requires : tie.Need-try-word-requires
+try-word-requires c κs = search needs
 
 try-book-requires : tie.Need-try-book-requires
 try-book-requires c κs = search needs
 
 returns : tie.Need-returns
-returns c = try-number (λ a. tryNumbers a .book) _ _ _ _ _ (c .before .try-code .ensures) (c .try-book .ensures)
+returns c = try-number (λ a. tryNumbers a .book) _ _ _ _ _ (c .before .try-word .ensures) (c .try-book .ensures)
 
 pub fekhvina-try-book-spec : {M : Type 1} → statement M
-fekhvina-try-book-spec = tie.close (tie.spec try-code-requires try-book-requires returns)
+fekhvina-try-book-spec = tie.close (tie.spec try-word-requires try-book-requires returns)

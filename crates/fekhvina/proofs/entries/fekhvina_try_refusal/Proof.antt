@@ -5,14 +5,14 @@ use borrow.Author.Needs.{needs}
 use Rattle.fekhvina.proofs.entries.fekhvina_try_refusal.Statement.{statement}
 use Rattle.fekhvina.proofs.entries.fekhvina_try_refusal.Tie as tie
 
-try-code-requires : tie.Need-try-code-requires
-try-code-requires c κs = search needs
+try-word-requires : tie.Need-try-word-requires
+try-word-requires c κs = search needs
 
 try-refusal-requires : tie.Need-try-refusal-requires
 try-refusal-requires c κs = search needs
 
 returns : tie.Need-returns
-returns c = try-number (λ a. tryNumbers a .refusal) _ _ _ _ _ (c .before .try-code .ensures) (c .try-refusal .ensures)
+returns c = try-number (λ a. tryNumbers a .refusal) _ _ _ _ _ (c .before .try-word .ensures) (c .try-refusal .ensures)
 
 pub fekhvina-try-refusal-spec : {M : Type 1} → statement M
-fekhvina-try-refusal-spec = tie.close (tie.spec try-code-requires try-refusal-requires returns)
+fekhvina-try-refusal-spec = tie.close (tie.spec try-word-requires try-refusal-requires returns)

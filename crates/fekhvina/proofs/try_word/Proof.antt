@@ -1,4 +1,4 @@
--- `fekhvina::try_code` meets its contract. Assumes nothing.
+-- `fekhvina::try_word` meets its contract. Assumes nothing.
 use mathlib.Core.Path.{_≡_, _∙_, sym}
 use mathlib.Core.Bool.{false}
 use native.Mathlib.Omega.{arith}
@@ -7,8 +7,8 @@ use Rattle.fekhvina.specs.declared.pair.PairOrRefusal.the-variants.{Acce
 use Rattle.fekhvina.specs.Pair.{readPair}
 use Rattle.fekhvina.proofs.Trying.{try-refused, try-long, try-strange, try-answers, mask-question, book-long, book-question}
 use borrow.Author.Needs.{needs}
-use Rattle.fekhvina.proofs.try_code.Statement.{statement}
-use Rattle.fekhvina.proofs.try_code.Tie as tie
+use Rattle.fekhvina.proofs.try_word.Statement.{statement}
+use Rattle.fekhvina.proofs.try_word.Tie as tie
 
 -- the book and the mask are accepted
 accepted : (c : tie.After-got)
@@ -19,7 +19,7 @@ accepted c = sym (c .before .before .read-pair .ensures) ∙ c .got .given .1
 -- and the code's letters are the book's
 of-book : (c : tie.Else2)
     → let got = c .before .before .before .before in
-    strange (got .got .given .0 .0 .book .letters) (got .before .before .before .before .before .before .args .code .now) ≡ false
+    strange (got .got .given .0 .0 .book .letters) (got .before .before .before .before .before .before .args .word .now) ≡ false
 of-book c = sym (c .before .some-strange .ensures) ∙ c .if2 .left
 
 read-pair-requires : tie.Need-read-pair-requires
@@ -72,8 +72,8 @@ returns-4 c =
     let got = last .before .before .before .before in
     try-answers _ _ _ _ (got .before .before .read-pair .ensures) _ (got .got .given .1) (omega arith) (of-book last) _ _ (tried .spells .ensures) (c .accepts .ensures)
 
-pub try-code-spec : {M : Type 1} → statement M
-try-code-spec =
+pub try-word-spec : {M : Type 1} → statement M
+try-word-spec =
     tie.close
     (tie.spec
     read-pair-requires
