@@ -22,8 +22,10 @@ hosts: $(HOSTS)/test_entries $(HOSTS)/example
 	@$(HOSTS)/example | diff - hosts/c/example.out
 	@$(HOSTS)/test_entries
 
-$(HOSTS)/test_entries: lib hosts/c/test_entries.c hosts/c/lent.c hosts/c/lent.h include/fekhvina.h
-	@$(CC) $(CFLAGS) -o $@ hosts/c/test_entries.c hosts/c/lent.c $(LIB)
+TEST = hosts/c/test_entries.c hosts/c/lent.c hosts/c/stack.c
+
+$(HOSTS)/test_entries: lib $(TEST) hosts/c/lent.h hosts/c/stack.h include/fekhvina.h
+	@$(CC) $(CFLAGS) -o $@ $(TEST) $(LIB)
 
 $(HOSTS)/example: lib hosts/c/example.c include/fekhvina.h
 	@$(CC) $(CFLAGS) -o $@ hosts/c/example.c $(LIB)

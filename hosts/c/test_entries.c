@@ -4,6 +4,7 @@
  */
 #include "fekhvina.h"
 #include "lent.h"
+#include "stack.h"
 
 #include <stdio.h>
 #include <string.h>
@@ -421,6 +422,30 @@ static void null_slices(void)
         && fekhvina_try_mask(b, book.len, m, in.len, NULL, 0) == 1 && fekhvina_try_book(b, book.len, m, in.len, NULL, 0) == 1);
 }
 
+/* The largest mask and code, with what the header says of the stack. */
+static void largest_tidy(void)
+{
+    fekhvina_tidy_bytes(in.at, in.len, answer.at, in.len);
+}
+
+static void largest_try(void)
+{
+    fekhvina_try_mask(book.at, book.len, in.at, in.len, code.at, code.len);
+}
+
+static void stacks(void)
+{
+    struct block once = {1, 0, 1}, other = {2, 0, 1};
+    hex(&book, BOOK_C);
+    mask_repeated(&in, once, other, 1024);
+    code.len = 1024;
+    memset(code.at, 0, code.len);
+    size_t tidy = stack_used(largest_tidy), try = stack_used(largest_try);
+    printf("stack: tidy %zu bytes, try %zu bytes\n", tidy, try);
+    count("tidy", "stack under 13 kB", tidy < 13000);
+    count("try", "stack under 3 kB", try < 3000);
+}
+
 int main(void)
 {
     lent_open();
@@ -431,6 +456,7 @@ int main(void)
     too_long();
     try_refusals();
     null_slices();
+    stacks();
     printf("%d passed, %d failed\n", passed, failed);
     return failed != 0;
 }

@@ -3,7 +3,7 @@
 use Prim.Native.Nat.{ℕ, zero, suc, _<_}
 use mathlib.Core.Path.{_≡_, refl}
 use native.Mathlib.Omega.{arith}
-use Rattle.fekhvina.specs.Pair.{andThen}
+use Rattle.fekhvina.specs.Order.{andThen}
 
 -- a refusal by the first checks
 pub refused-first : (r next : ℕ) → 0 < r → andThen r next ≡ r

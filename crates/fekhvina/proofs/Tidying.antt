@@ -47,15 +47,11 @@ pub put-tidied : (ms old new : List ℕ) (r : ℕ) (xs ys : List Block) → xs �
 unfolding tidyRecord
 put-tidied ms old new r xs ys e f put = rw (f, e) at put
 
--- a refusal is no number of bytes written
-not-written : {r n : ℕ} → ¬ (Refused r ≡ Written n)
-not-written e = let z : _≡_ {A = ℕ} 0 1 = cc in omega arith
-
 -- where the checks refuse, the buffer keeps every byte
 refusing : (ms old : List ℕ) (r : ℕ) → tidyRefusal ms (length old) ≡ r → 0 < r → Tidies ms old old (Refused r)
 unfolding tidied tidyBuffer
 refusing ms old zero e h = absurd (omega arith)
-refusing ms old (suc r) e h = record { answer = rw e; buffer = rw e; meaning = λ n w. absurd (not-written w) }
+refusing ms old (suc r) e h = record { answer = rw e; buffer = rw e; meaning = λ z. absurd (omega arith) }
 
 -- the record that tidy writes means what the mask means
 rewrites : (ms : List ℕ) → Bytes ms → maskRefusal ms ≡ 0 → Rewrites ms (tidyRecord ms)
@@ -77,7 +73,7 @@ writing ms old bytes none e =
     record {
       answer = rw e;
       buffer = rw e;
-      meaning = λ n w. let same : length (tidyRecord ms) ≡ n = cc in rw (← same, take-over) (rewrites ms bytes none);
+      meaning = λ z. rw take-over (rewrites ms bytes none);
     }
 
 module _ (ms old : List ℕ) (got : MaskOrRefusal) (read : got ≡ readMask ms) where

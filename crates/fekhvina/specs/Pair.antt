@@ -4,14 +4,10 @@ use mathlib.Core.List.{List}
 use Rattle.records.specs.Check.{refuse}
 use Rattle.records.specs.Book.{bookHead, bookRefusal}
 use Rattle.records.specs.Mask.{maskHead, maskOf, maskRefusal, foreign}
+use Rattle.fekhvina.specs.Order.{andThen}
 use Rattle.fekhvina.specs.declared.pair.Pair.{Pair}
 use Rattle.fekhvina.specs.declared.pair.PairOrRefusal.{PairOrRefusal}
 use Rattle.fekhvina.specs.declared.pair.PairOrRefusal.the-variants.{Accepted, Refused}
-
--- the first checks decide; where they refuse nothing, the next ones do
-abbrev pub andThen : ℕ → ℕ → ℕ
-andThen zero next = next
-andThen (suc r) next = suc r
 
 -- book checks, mask checks, 9
 unfoldable pub pairRefusal : List ℕ → List ℕ → ℕ

@@ -12,7 +12,7 @@ use Rattle.records.specs.Mask.{maskOf, maskRefusal}
 use Rattle.records.specs.Written.{maskBytes}
 use Rattle.fekhvina.specs.declared.TidyAnswer.{TidyAnswer}
 use Rattle.fekhvina.specs.declared.TidyAnswer.the-variants.{Written, Refused}
-use Rattle.fekhvina.specs.Pair.{andThen}
+use Rattle.fekhvina.specs.Order.{andThen}
 use Rattle.fekhvina.specs.Buffer.{unlessRefused}
 
 -- the record that it writes: the normal form
@@ -52,8 +52,8 @@ pub record Rewrites (ms written : List ℕ) : Type 0 where
   pub reduced : Reduced (maskOf written)
   pub spells : (w : List ℕ) → Matches (maskOf written) w ↔ Matches (maskOf ms) w
 
--- what tidy promises of its answer, of each byte of the buffer, and of the record that now stands there
+-- what tidy promises of its answer, of each byte of the buffer, and, where nothing is refused, of the record that now stands there
 pub record Tidies (ms old new : List ℕ) (a : TidyAnswer) : Type 0 where
   pub answer : a ≡ tidied ms (length old)
   pub buffer : new ≡ tidyBuffer ms old
-  pub meaning : (n : ℕ) → a ≡ Written n → Rewrites ms (take n new)
+  pub meaning : tidyRefusal ms (length old) ≡ 0 → Rewrites ms (take (tidyNumbers a .bytes) new)

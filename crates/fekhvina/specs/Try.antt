@@ -15,7 +15,8 @@ use Rattle.records.specs.Mask.{maskOf}
 use Rattle.membership.specs.Word.{strange}
 use Rattle.fekhvina.specs.declared.TryAnswer.{TryAnswer}
 use Rattle.fekhvina.specs.declared.TryAnswer.the-variants.{Tried, Refused}
-use Rattle.fekhvina.specs.Pair.{andThen, pairRefusal}
+use Rattle.fekhvina.specs.Order.{andThen}
+use Rattle.fekhvina.specs.Pair.{pairRefusal}
 
 -- its checks: those of a book and a mask, then 12, a code over 1,024 letters, then 13, a letter m or above
 unfoldable pub tryRefusal : List ℕ → List ℕ → List ℕ → ℕ
