@@ -28,7 +28,7 @@ extern "C" {
  *
  * Refusals, in order: 1, 2, 3, 4, 5, 7, 8 (the mask), 10 (the answer buffer is shorter than the answer).
  * Touches: the first 6 + 12 * blocks bytes of out, where nothing is refused. An answer is never longer than the mask.
- * Cost: one step for each block. Stack: under 13 kB.
+ * Cost: linear in the bytes of the mask. Stack: under 13 kB.
  */
 
 /* The refusal number, 0 for none. */
@@ -44,7 +44,8 @@ uint32_t fekhvina_tidy_bytes(const uint8_t *mask, size_t mask_len, uint8_t *out,
  * Refusals, in order: 1 to 6 (the book), 1, 2, 3, 4, 5, 7, 8 (the mask), 9 (a set with a letter that the book lacks), 12 (a
  * code over 1,024 letters), 13 (a letter that the book lacks).
  * Touches: nothing.
- * Cost: one step for each pair of a block and a position of the code, and one for each letter. Stack: under 3 kB.
+ * Cost: linear in the bytes of the records, and one step for each pair of a block and a position of the code, of which there
+ * is one more than letters. Stack: under 3 kB.
  */
 
 /* The refusal number, 0 for none. */

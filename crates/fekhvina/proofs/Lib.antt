@@ -6,3 +6,4 @@ pub mod Pairs
 pub mod Putting
 pub mod Tidying
 pub mod Trying
+pub mod Answering

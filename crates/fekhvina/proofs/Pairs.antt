@@ -86,5 +86,13 @@ pub pair-records : (bs ms : List ℕ) → pairRefusal bs ms ≡ 0 → BookRecord
 unfolding pairRefusal
 pair-records bs ms h =
     let (book, h) = passed-first (bookRefusal bs) _ h in
-    let (mask, h) = passed-first (maskRefusal ms) _ h in
+    let (mask, _) = passed-first (maskRefusal ms) _ h in
     (book-record bs book, mask-record ms mask)
+
+-- the mask is that of its own reader
+pub pair-mask : (bs ms : List ℕ) (p : Pair) → readPair bs ms ≡ Accepted p → readMask ms ≡ maskAnswer.Accepted (p .mask)
+unfolding readMask pairRefusal
+pair-mask bs ms p h =
+    let (none, head) = pair-accepted bs ms p h in
+    let (mask, _) = passed-first (maskRefusal ms) _ (passed-first (bookRefusal bs) _ none .1) in
+    rw (mask, head)

@@ -2,6 +2,7 @@
 -- Assumes nothing.
 use Prim.Native.Nat.{ℕ, _+_, _-_, _*_, _≤_, _<_}
 use mathlib.Core.Path.{_≡_, refl}
+use mathlib.Core.Logic.{_⊎_, inl, inr, ⊎-elim}
 use mathlib.Core.Bool.{Bool, true, false}
 use mathlib.Core.List.{List}
 use native.Mathlib.Omega.{arith}
@@ -41,18 +42,18 @@ module _ (b l u : List ℕ) (first end : ℕ) (old : List ℕ) where
 
 -- what was returned tells whether the record was written
 module _ (written old new : List ℕ) (r : ℕ) (puts : Puts written old new r) where
-  -- 0: the buffer is shorter, and keeps every byte
-  pub put-nothing : 0 < length written → r ≡ 0 → (length old < length written) × (new ≡ old)
-  put-nothing h e = go (ltb (length old) (length written)) refl
+  -- the buffer is shorter, or it has room
+  room : (length old < length written) ⊎ (length written ≤ length old)
+  room = go (ltb (length old) (length written)) refl
     where
-      go : (t : Bool) → ltb (length old) (length written) ≡ t → (length old < length written) × (new ≡ old)
-      go true t = let less = ltb-true (length old) (length written) t in (less, puts .short less .1)
-      go false t = absurd (omega (arith, puts .fits (ltb-false (length old) (length written) t) .0))
+      go : (t : Bool) → ltb (length old) (length written) ≡ t → (length old < length written) ⊎ (length written ≤ length old)
+      go true t = inl (ltb-true (length old) (length written) t)
+      go false t = inr (ltb-false (length old) (length written) t)
 
-  -- else it is written
+  -- 0: it is shorter, and keeps every byte
+  pub put-nothing : 0 < length written → r ≡ 0 → (length old < length written) × (new ≡ old)
+  put-nothing h e = ⊎-elim (λ l. (l, puts .short l .1)) (λ l. absurd (omega (arith, puts .fits l .0))) room
+
+  -- else it has room, and the record is written
   pub put-all : ¬ (r ≡ 0) → (length written ≤ length old) × ((r ≡ length written) × (new ≡ over written old))
-  put-all n = go (ltb (length old) (length written)) refl
-    where
-      go : (t : Bool) → ltb (length old) (length written) ≡ t → (length written ≤ length old) × ((r ≡ length written) × (new ≡ over written old))
-      go true t = absurd (n (puts .short (ltb-true (length old) (length written) t) .0))
-      go false t = let room = ltb-false (length old) (length written) t in (room, puts .fits room)
+  put-all n = ⊎-elim (λ l. absurd (n (puts .short l .0))) (λ l. (l, puts .fits l)) room

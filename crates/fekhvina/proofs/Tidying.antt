@@ -23,7 +23,6 @@ use Rattle.records.proofs.Offsets.{blocks-counted}
 use Rattle.records.proofs.Over.{take-over}
 use Rattle.records.proofs.RoundTrip.{length-mask, reads-back}
 use Rattle.records.proofs.WellFormed.{mask-record, record-fits-64}
-use Rattle.fekhvina.specs.declared.TidyAnswer.{TidyAnswer}
 use Rattle.fekhvina.specs.declared.TidyAnswer.the-variants.{Written, Refused}
 use Rattle.fekhvina.specs.Buffer.{Puts}
 use Rattle.fekhvina.specs.Tidy.{tidyRecord, tidyRefusal, tidyOr, tidied, tidyBuffer, tidyNumbers, Rewrites, Tidies}
@@ -104,11 +103,6 @@ module _ (ms old : List ℕ) (got : MaskOrRefusal) (read : got ≡ readMask ms) 
           let (room, (size, same)) = put-all (tidyRecord ms) old new r put n in
           let passes : tidyRefusal ms (length old) ≡ 0 = rw none (off _ 10 0 (le-ltb (length old) (length (tidyRecord ms)) room)) in
           rw (size, same) (writing ms old bytes none passes)
-
--- a number of tidy's answer is that number of the answer that the definition gives
-pub tidy-number : (number : TidyAnswer → ℕ) (ms old new : List ℕ) (a : TidyAnswer) (r : ℕ) → Tidies ms old new a → r ≡ number a
-    → (r ≡ number (tidied ms (length old))) × Tidies ms old new (tidied ms (length old))
-tidy-number number ms old new a r t e = rw (← t .answer) (e, t)
 
 -- the refusal number at the host is that of the checks
 pub tidy-refusal-number : (ms : List ℕ) (room : ℕ) → tidyNumbers (tidied ms room) .refusal ≡ tidyRefusal ms room

@@ -13,6 +13,7 @@ use Rattle.model.specs.Membership.{spells, accepts}
 use Rattle.model.proofs.Membership.{spells-exact, accepts-exact}
 use Rattle.records.specs.Book.{movesOf, automatonOf, bookOf}
 use Rattle.records.specs.Mask.{count, maskOf}
+use Rattle.records.proofs.Answers.{mask-holds}
 use Rattle.records.proofs.Checks.{on, off}
 use Rattle.records.proofs.Over.{part-rest}
 use Rattle.membership.specs.Word.{strange, Letters}
@@ -20,12 +21,11 @@ use Rattle.membership.proofs.Strange.{none-strange}
 use Rattle.fekhvina.specs.declared.pair.Pair.{Pair}
 use Rattle.fekhvina.specs.declared.pair.PairOrRefusal.{PairOrRefusal}
 use Rattle.fekhvina.specs.declared.pair.PairOrRefusal.the-variants as pairAnswer
-use Rattle.fekhvina.specs.declared.TryAnswer.{TryAnswer}
 use Rattle.fekhvina.specs.declared.TryAnswer.the-variants.{Tried, Refused}
 use Rattle.fekhvina.specs.Pair.{pairRefusal, readPair, pairNumber}
 use Rattle.fekhvina.specs.Try.{tryRefusal, tryOr, tried, tryNumbers, yes, Tries}
 use Rattle.fekhvina.proofs.Order.{refused-first}
-use Rattle.fekhvina.proofs.Pairs.{pair-refused, pair-accepted, pair-records}
+use Rattle.fekhvina.proofs.Pairs.{pair-refused, pair-accepted, pair-records, pair-mask}
 
 -- a refusal
 refusing : (bs ms w : List ℕ) (r : ℕ) → tryRefusal bs ms w ≡ r → 0 < r → Tries bs ms w (Refused r)
@@ -84,7 +84,7 @@ module _ (bs ms w : List ℕ) (got : PairOrRefusal) (read : got ≡ readPair bs 
 
 -- ---- what the two questions need
 
--- the book holds its head
+-- the book has a head
 pub book-long : (bs ms : List ℕ) (p : Pair) → readPair bs ms ≡ pairAnswer.Accepted p → 15 ≤ length bs
 book-long bs ms p read = omega (arith, pair-records bs ms (pair-accepted bs ms p read .0) .0 .size)
 
@@ -94,11 +94,11 @@ module _ (bs ms w : List ℕ) (p : Pair) (read : readPair bs ms ≡ pairAnswer.A
       → ((p .mask .blocks ≡ count ms) × (6 + 12 * p .mask .blocks ≤ length ms)) × ((length w ≤ 1024) × Letters 64 w)
   mask-question h s =
       let (none, head) = pair-accepted bs ms p read in
-      let (book, mask) = pair-records bs ms none in
+      let few = pair-records bs ms none .0 .sound .letters in
       let letters = none-strange (p .book .letters) w .0 s in
-      rw head ((refl, omega (arith, mask .size)), (h, λ i l. omega (arith, rw head at (letters i l), book .sound .letters)))
+      (mask-holds ms (p .mask) (pair-mask bs ms p read), (h, λ i l. omega (arith, rw head at (letters i l), few)))
 
-  -- and behind it its moves, and the code's letters are its letters
+  -- the book's start is one of its states, its moves stand behind its head, and the code's letters are its letters
   pub book-question : strange (p .book .letters) w ≡ false
       → ((p .book .start < p .book .states) × (p .book .states < 64)
       × (p .book .states * p .book .letters ≤ length (take (length bs - 15) (drop 15 bs)))) × Letters (p .book .letters) w
@@ -106,11 +106,6 @@ module _ (bs ms w : List ℕ) (p : Pair) (read : readPair bs ms ≡ pairAnswer.A
       let (none, head) = pair-accepted bs ms p read in
       let book = pair-records bs ms none .0 in
       rw (part-rest 15 bs, head) ((book .sound .start, book .sound .states, omega (arith, book .size, length-drop 15 bs)), none-strange _ w .0 (rw head at s))
-
--- a number of try's answer is that number of the answer that the definition gives
-pub try-number : (number : TryAnswer → ℕ) (bs ms w : List ℕ) (a : TryAnswer) (r : ℕ) → Tries bs ms w a → r ≡ number a
-    → (r ≡ number (tried bs ms w)) × Tries bs ms w (tried bs ms w)
-try-number number bs ms w a r t e = rw (← t .answer) (e, t)
 
 -- the refusal number at the host is that of the checks
 pub try-refusal-number : (bs ms w : List ℕ) → tryNumbers (tried bs ms w) .refusal ≡ tryRefusal bs ms w

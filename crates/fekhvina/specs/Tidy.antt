@@ -15,11 +15,11 @@ use Rattle.fekhvina.specs.declared.TidyAnswer.the-variants.{Written, Ref
 use Rattle.fekhvina.specs.Order.{andThen}
 use Rattle.fekhvina.specs.Buffer.{unlessRefused}
 
--- the record that it writes: the normal form
+-- the record that tidy writes: the normal form
 unfoldable pub tidyRecord : List ℕ → List ℕ
 tidyRecord ms = maskBytes (normal (maskOf ms))
 
--- its checks: the mask checks, then 10, an answer buffer of so many bytes is shorter than the answer
+-- tidy's checks: the mask checks, then 10, an answer buffer of so many bytes is shorter than the answer
 unfoldable pub tidyRefusal : List ℕ → ℕ → ℕ
 tidyRefusal ms room = andThen (maskRefusal ms) (refuse (ltb room (length (tidyRecord ms))) 10 0)
 
@@ -28,11 +28,11 @@ abbrev pub tidyOr : ℕ → ℕ → TidyAnswer
 tidyOr n zero = Written n
 tidyOr n (suc r) = Refused (suc r)
 
--- its answer
+-- tidy's answer
 unfoldable pub tidied : List ℕ → ℕ → TidyAnswer
 tidied ms room = tidyOr (length (tidyRecord ms)) (tidyRefusal ms room)
 
--- the answer buffer behind it
+-- the answer buffer behind tidy
 unfoldable pub tidyBuffer : List ℕ → List ℕ → List ℕ
 tidyBuffer ms old = unlessRefused (tidyRefusal ms (length old)) (tidyRecord ms) old
 

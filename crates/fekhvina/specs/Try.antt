@@ -18,7 +18,7 @@ use Rattle.fekhvina.specs.declared.TryAnswer.the-variants.{Tried, Refuse
 use Rattle.fekhvina.specs.Order.{andThen}
 use Rattle.fekhvina.specs.Pair.{pairRefusal}
 
--- its checks: those of a book and a mask, then 12, a code over 1,024 letters, then 13, a letter m or above
+-- try's checks: those of a book and a mask, then 12, a code over 1,024 letters, then 13, a letter m or above
 unfoldable pub tryRefusal : List ℕ → List ℕ → List ℕ → ℕ
 tryRefusal bs ms w =
     andThen (pairRefusal bs ms)
@@ -31,7 +31,7 @@ abbrev pub tryOr : Bool → Bool → ℕ → TryAnswer
 tryOr m b zero = Tried m b
 tryOr m b (suc r) = Refused (suc r)
 
--- its answer
+-- try's answer
 unfoldable pub tried : List ℕ → List ℕ → List ℕ → TryAnswer
 tried bs ms w = tryOr (spells (maskOf ms) w) (accepts (bookOf bs) w) (tryRefusal bs ms w)
 

@@ -35,7 +35,7 @@ pub run-append : (t : Table) (q : ℕ) (p w : List ℕ) → run t q (p ++ w) ≡
 run-append t q [] w = refl
 run-append t q (c ∷ p) w = run-append t (next t q c) p w
 
--- no block at all spells the empty word alone
+-- a mask of no blocks spells only the empty word
 pub matches-nil : (w : List ℕ) → Matches [] w ↔ (w ≡ [])
 unfolding flatten
 matches-nil w = (λ (ps, f, e). out f e, λ e. ([], done, rw e))

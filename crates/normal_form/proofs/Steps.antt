@@ -7,13 +7,14 @@ use mathlib.Core.Logic.{_⊎_, ⊎-elim}
 use mathlib.Core.List.{List, [], _∷_}
 use native.Mathlib.Omega.{arith}
 use lib.ListN.{length, getD, drop, set}
-use lib.Seq.{drop-cons, getD-set-other, set-getD}
+use lib.Seq.{drop-cons, set-getD}
 use borrow.Author.Tests.{eq-eqb, ne-eqb}
 use Rattle.model.specs.declared.Block.{Block}
 use Rattle.model.specs.DashedString.{block}
 use Rattle.model.specs.Size.{Room}
 use Rattle.model.specs.NormalForm.{idle, join, Apart}
 use Rattle.records.specs.Written.{numbered, blocksBetween, Enough}
+use Rattle.records.proofs.Copies.{stored-other}
 use Rattle.normal_form.specs.Pushed.{inFront, Pushed}
 
 -- a list from element i on, where that was stored
@@ -42,13 +43,6 @@ module _ (a b c : List ℕ) where
         let more : end - i ≡ suc (end - suc i) = omega arith in
         rw (more, drop-set a i (x .base) (omega arith), drop-set b i (x .lower) (omega arith), drop-set c i (x .upper) (omega arith))
 
-  -- a block that lies before the stored one
-  numbered-set : (i : ℕ) (x : Block) (j : ℕ) → j < i
-      → numbered (set a i (x .base)) (set b i (x .lower)) (set c i (x .upper)) j ≡ numbered a b c j
-  numbered-set i x j h =
-      let other : ¬ (j ≡ i) = λ e. omega arith in
-      rw (getD-set-other a i j (x .base) 0 other, getD-set-other b i j (x .lower) 0 other, getD-set-other c i j (x .upper) 0 other)
-
 -- block i, and the entries from at up to end
 module _ (a b c : List ℕ) (i at end : ℕ) (e : Enough a b c end) (o : (i < at) × (at ≤ end)) where
   -- its bounds can be added to those of the first entry
@@ -65,7 +59,7 @@ module _ (a b c : List ℕ) (i at end : ℕ) (e : Enough a b c end) (o : (i < at
       → x ∷ blocksBetween a b c (suc p) end ≡ inFront (numbered a b c i) (blocksBetween a b c at end)
       → Pushed a b c i at end (set a p (x .base)) (set b p (x .lower)) (set c p (x .upper)) p
   stored p x f g h k =
-      record { behind = f; within = g; before = λ j n. numbered-set a b c p x j (omega arith); made = between-set a b c p end h e x ∙ k }
+      record { behind = f; within = g; before = λ j n. stored-other a b c p x j (λ (d : j ≡ p). omega arith); made = between-set a b c p end h e x ∙ k }
 
   -- with the set of the first entry: it becomes one with that
   pub pushed-joined : idle (numbered a b c i) ≡ false → at < end → getD a i 0 ≡ getD a at 0

@@ -1,6 +1,6 @@
 -- `fekhvina::entries::fekhvina_tidy_bytes` meets its contract. Assumes nothing.
-use Rattle.fekhvina.specs.Tidy.{tidyNumbers}
-use Rattle.fekhvina.proofs.Tidying.{tidy-number}
+use Rattle.fekhvina.specs.Tidy.{tidyNumbers, Tidies}
+use Rattle.fekhvina.proofs.Answering.{number-of}
 use borrow.Author.Needs.{needs}
 use Rattle.fekhvina.proofs.entries.fekhvina_tidy_bytes.Statement.{statement}
 use Rattle.fekhvina.proofs.entries.fekhvina_tidy_bytes.Tie as tie
@@ -15,7 +15,9 @@ same-length : tie.Need-same-length
 same-length c = search needs
 
 returns : tie.Need-returns
-returns c = tidy-number (λ a. tidyNumbers a .bytes) _ _ _ _ _ (c .before .before .before .tidy .ensures) (c .tidy-bytes .ensures)
+returns c =
+    let promised = c .before .before .before .tidy .ensures in
+    number-of (λ a. tidyNumbers a .bytes) (Tidies _ _ _) _ _ _ (promised .answer) promised (c .tidy-bytes .ensures)
 
 pub fekhvina-tidy-bytes-spec : {M : Type 1} → statement M
 fekhvina-tidy-bytes-spec =

@@ -1,6 +1,6 @@
 -- `fekhvina::entries::fekhvina_tidy_refusal` meets its contract. Assumes nothing.
-use Rattle.fekhvina.specs.Tidy.{tidyNumbers}
-use Rattle.fekhvina.proofs.Tidying.{tidy-number}
+use Rattle.fekhvina.specs.Tidy.{tidyNumbers, Tidies}
+use Rattle.fekhvina.proofs.Answering.{number-of}
 use borrow.Author.Needs.{needs}
 use Rattle.fekhvina.proofs.entries.fekhvina_tidy_refusal.Statement.{statement}
 use Rattle.fekhvina.proofs.entries.fekhvina_tidy_refusal.Tie as tie
@@ -15,7 +15,9 @@ same-length : tie.Need-same-length
 same-length c = search needs
 
 returns : tie.Need-returns
-returns c = tidy-number (λ a. tidyNumbers a .refusal) _ _ _ _ _ (c .before .before .before .tidy .ensures) (c .tidy-refusal .ensures)
+returns c =
+    let promised = c .before .before .before .tidy .ensures in
+    number-of (λ a. tidyNumbers a .refusal) (Tidies _ _ _) _ _ _ (promised .answer) promised (c .tidy-refusal .ensures)
 
 pub fekhvina-tidy-refusal-spec : {M : Type 1} → statement M
 fekhvina-tidy-refusal-spec =

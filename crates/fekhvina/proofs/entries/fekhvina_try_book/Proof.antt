@@ -1,6 +1,6 @@
 -- `fekhvina::entries::fekhvina_try_book` meets its contract. Assumes nothing.
-use Rattle.fekhvina.specs.Try.{tryNumbers}
-use Rattle.fekhvina.proofs.Trying.{try-number}
+use Rattle.fekhvina.specs.Try.{tryNumbers, Tries}
+use Rattle.fekhvina.proofs.Answering.{number-of}
 use borrow.Author.Needs.{needs}
 use Rattle.fekhvina.proofs.entries.fekhvina_try_book.Statement.{statement}
 use Rattle.fekhvina.proofs.entries.fekhvina_try_book.Tie as tie
@@ -12,7 +12,9 @@ try-book-requires : tie.Need-try-book-requires
 try-book-requires c κs = search needs
 
 returns : tie.Need-returns
-returns c = try-number (λ a. tryNumbers a .book) _ _ _ _ _ (c .before .try-word .ensures) (c .try-book .ensures)
+returns c =
+    let promised = c .before .try-word .ensures in
+    number-of (λ a. tryNumbers a .book) (Tries _ _ _) _ _ _ (promised .answer) promised (c .try-book .ensures)
 
 pub fekhvina-try-book-spec : {M : Type 1} → statement M
 fekhvina-try-book-spec = tie.close (tie.spec try-word-requires try-book-requires returns)

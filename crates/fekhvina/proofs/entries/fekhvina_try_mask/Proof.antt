@@ -1,6 +1,6 @@
 -- `fekhvina::entries::fekhvina_try_mask` meets its contract. Assumes nothing.
-use Rattle.fekhvina.specs.Try.{tryNumbers}
-use Rattle.fekhvina.proofs.Trying.{try-number}
+use Rattle.fekhvina.specs.Try.{tryNumbers, Tries}
+use Rattle.fekhvina.proofs.Answering.{number-of}
 use borrow.Author.Needs.{needs}
 use Rattle.fekhvina.proofs.entries.fekhvina_try_mask.Statement.{statement}
 use Rattle.fekhvina.proofs.entries.fekhvina_try_mask.Tie as tie
@@ -12,7 +12,9 @@ try-mask-requires : tie.Need-try-mask-requires
 try-mask-requires c κs = search needs
 
 returns : tie.Need-returns
-returns c = try-number (λ a. tryNumbers a .mask) _ _ _ _ _ (c .before .try-word .ensures) (c .try-mask .ensures)
+returns c =
+    let promised = c .before .try-word .ensures in
+    number-of (λ a. tryNumbers a .mask) (Tries _ _ _) _ _ _ (promised .answer) promised (c .try-mask .ensures)
 
 pub fekhvina-try-mask-spec : {M : Type 1} → statement M
 fekhvina-try-mask-spec = tie.close (tie.spec try-word-requires try-mask-requires returns)

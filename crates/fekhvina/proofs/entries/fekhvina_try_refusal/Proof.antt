@@ -1,6 +1,6 @@
 -- `fekhvina::entries::fekhvina_try_refusal` meets its contract. Assumes nothing.
-use Rattle.fekhvina.specs.Try.{tryNumbers}
-use Rattle.fekhvina.proofs.Trying.{try-number}
+use Rattle.fekhvina.specs.Try.{tryNumbers, Tries}
+use Rattle.fekhvina.proofs.Answering.{number-of}
 use borrow.Author.Needs.{needs}
 use Rattle.fekhvina.proofs.entries.fekhvina_try_refusal.Statement.{statement}
 use Rattle.fekhvina.proofs.entries.fekhvina_try_refusal.Tie as tie
@@ -12,7 +12,9 @@ try-refusal-requires : tie.Need-try-refusal-requires
 try-refusal-requires c κs = search needs
 
 returns : tie.Need-returns
-returns c = try-number (λ a. tryNumbers a .refusal) _ _ _ _ _ (c .before .try-word .ensures) (c .try-refusal .ensures)
+returns c =
+    let promised = c .before .try-word .ensures in
+    number-of (λ a. tryNumbers a .refusal) (Tries _ _ _) _ _ _ (promised .answer) promised (c .try-refusal .ensures)
 
 pub fekhvina-try-refusal-spec : {M : Type 1} → statement M
 fekhvina-try-refusal-spec = tie.close (tie.spec try-word-requires try-refusal-requires returns)
