@@ -16,7 +16,7 @@ same-length c = search needs
 
 returns : tie.Need-returns
 returns c =
-    let promised = c .before .before .before .tidy .ensures in
+    let promised : Tidies _ _ _ _ = c .before .before .before .tidy .ensures in
     number-of (λ a. tidyNumbers a .bytes) (Tidies _ _ _) _ _ _ (promised .answer) promised (c .tidy-bytes .ensures)
 
 pub fekhvina-tidy-bytes-spec : {M : Type 1} → statement M

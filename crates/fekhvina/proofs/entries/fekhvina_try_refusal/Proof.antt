@@ -13,7 +13,7 @@ try-refusal-requires c κs = search needs
 
 returns : tie.Need-returns
 returns c =
-    let promised = c .before .try-word .ensures in
+    let promised : Tries _ _ _ _ = c .before .try-word .ensures in
     number-of (λ a. tryNumbers a .refusal) (Tries _ _ _) _ _ _ (promised .answer) promised (c .try-refusal .ensures)
 
 pub fekhvina-try-refusal-spec : {M : Type 1} → statement M
