@@ -2,17 +2,19 @@
 -- Assumes nothing.
 use mathlib.Core.Path.{_≡_, refl, sym}
 use mathlib.Core.Logic.{_↔_, _⊎_, inl, inr, ⊎-elim}
-use mathlib.Core.Bool.{Bool, true, false, not}
-use Prim.Native.Nat.{ℕ, zero, suc, _+_, _-_, _/_, _%_, _^_, _≤_, _<_}
+use mathlib.Core.Bool.{Bool, true, false, not, _&&_}
+use Prim.Native.Nat.{ℕ, zero, suc, _+_, _-_, _/_, _%_, _^_, _≤_, _<_, min}
 use native.Mathlib.Nat.{one-mul, pow-suc, le-div-iff-mul-le, lt-of-not-le, mod-self}
 use native.Mathlib.Omega.{arith}
 use borrow.Author.Tests.{eq-eqb, eqb-true, eqb-false}
 use lib.Arith.{bin-ind}
-use lib.Bits.{bitAnd, and-step, and-self, and-mask}
-use lib.Dec.{T, eqb, leb, ltb, eqb→eq, eqb-refl, eqb·suc-zero, ltb→lt, leb→le, le→leb}
+use lib.Bits.{bitAnd, bitXor, differ, and-step, xor-step, and-self, and-mask, and-shr, xor-shr, and-lt, xor-lt, xor-add-and}
+use lib.Count.{trailingZeros, under}
+use lib.Dec.{T, T-not, eqb, leb, ltb, eqb→eq, eqb-refl, eqb·suc-zero, ltb→lt, leb→le, le→leb}
 use lib.Pow.{pow-pos, pow-mono, shr-shr}
-use Rattle.model.specs.Set.{has, Member, either, someFrom, oneMember}
-use Rattle.model.proofs.Set.{digits, has-half, some-below, member, in-one, one-in, in-either, some-member}
+use Rattle.model.specs.Set.{has, Member, both, either, someFrom, oneMember}
+use Rattle.model.proofs.Set.{T-and, digits, has-half, some-below, member, in-none, in-one, one-in, in-both, in-either, in-members, members-bytes, some-member}
+use Rattle.bitset.specs.Difference.{difference}
 
 -- tests that pass in the same cases are equal
 pub same-test : (a b : Bool) → (T a ↔ T b) → a ≡ b
@@ -81,6 +83,80 @@ in-add s i j h = (
   λ m. ⊎-elim inl (λ x. inr (in-one x)) (in-either s (2 ^ i) .0 m),
   λ m. in-either s (2 ^ i) .1 (⊎-elim inl (λ e. inr (rw e (one-in h))) m),
 )
+
+-- ---- the least member
+
+-- the zeros below the lowest bit end at a bit
+trailing-bit : (k s : ℕ) → 0 < s → s < 2 ^ k → (trailingZeros k s < k) × T (has s (trailingZeros k s))
+unfolding trailingZeros
+trailing-bit zero s h l = absurd (omega arith)
+trailing-bit (suc k) s h l = go (s % 2) refl (λ p. trailing-bit k (s / 2) p (omega (arith, pow-suc 2 k)))
+  where
+    go : (r : ℕ) → s % 2 ≡ r → (0 < s / 2 → (trailingZeros k (s / 2) < k) × T (has (s / 2) (trailingZeros k (s / 2))))
+        → (under r (trailingZeros k (s / 2)) < suc k) × T (has s (under r (trailingZeros k (s / 2))))
+    go zero e next = let (a, b) = next (omega arith) in (omega arith, rw has-half b)
+    go (suc r) e next = (omega arith, has-first s .1 (omega arith))
+
+-- the number of them is a member
+pub least-in : (s : ℕ) → s < 2 ^ 64 → 0 < s → Member (trailingZeros 64 s) s
+least-in s l h = let (a, b) = trailing-bit 64 s h l in member a b
+
+-- ---- what is in one set and not in another
+
+-- in the difference: in the first and not in the second
+pub in-difference : (s t : ℕ) {i : ℕ} → Member i (difference s t) ↔ (Member i s × ¬ Member i t)
+unfolding difference
+in-difference s t {i} = (
+  λ h. let (m, n) = in-members s (λ j. not (has t j)) .0 h in (m, λ x. T-not (has t i) n (x .there)),
+  λ (m, n). in-members s (λ j. not (has t j)) .1 (m, go (has t i) (λ x. n (member (m .small) x))),
+)
+  where
+    go : (b : Bool) → ¬ T b → T (not b)
+    go true n = n tt
+    go false n = tt
+
+-- a bit of the code's difference
+has-cleared : (s t i : ℕ) → has (bitXor s (bitAnd s t)) i ≡ (has s i && not (has t i))
+unfolding has
+has-cleared s t i =
+    let x = s / 2 ^ i in
+    let y = t / 2 ^ i in
+    let digit : differ (x % 2) (bitAnd x y % 2) < 2
+    = digits (λ a b. differ a b < 2) (omega arith) (omega arith) (omega arith) (omega arith) x (bitAnd x y) in
+    let odd : bitXor x (bitAnd x y) % 2 ≡ differ (x % 2) (bitAnd x y % 2) = omega (arith, digit, xor-step x (bitAnd x y)) in
+    let last : bitAnd x y % 2 ≡ min (x % 2) (y % 2) = omega (arith, and-step x y) in
+    rw (xor-shr s (bitAnd s t) i, and-shr s t i, odd, last)
+    (digits (λ a b. eqb (differ a (min a b)) 1 ≡ (eqb a 1 && not (eqb b 1))) refl refl refl refl x y)
+
+-- what the code makes of two sets is their difference
+pub difference-test : (s t : ℕ) → s < 2 ^ 64 → t < 2 ^ 64 → bitXor s (bitAnd s t) ≡ difference s t
+unfolding difference
+difference-test s t a b =
+    same-members (bitXor s (bitAnd s t)) (difference s t) (xor-lt 64 s (bitAnd s t) a (and-lt 64 s t a b)) (members-bytes s (λ j. not (has t j))) (λ i. (
+      λ h.
+          let (x, y) = T-and (has s i) (not (has t i)) .0 (rw has-cleared at (h .there)) in
+          in-members s (λ j. not (has t j)) .1 (member (h .small) x, y),
+      λ h.
+          let (m, n) = in-members s (λ j. not (has t j)) .0 h in
+          member (m .small) (rw has-cleared (T-and (has s i) (not (has t i)) .1 (m .there, n))),
+    ))
+
+-- without a member it is a smaller number
+pub difference-less : (s i : ℕ) → s < 2 ^ 64 → Member i s → difference s (2 ^ i) < s
+difference-less s i l m =
+    let small : 2 ^ i < 2 ^ 64 = omega (arith, has-le s i (m .there)) in
+    let t = both s (2 ^ i) in
+    let bytes = and-lt 64 s (2 ^ i) l small in
+    let again : both s t ≡ t = same-members (both s t) t (and-lt 64 s t l bytes) bytes (λ j. (
+      λ h. in-both s t .0 h .1,
+      λ h. in-both s t .1 (in-both s (2 ^ i) .0 h .0, h),
+    )) in
+    let there : ¬ (t ≡ 0) = λ e. in-none (rw e at (in-both s (2 ^ i) .1 (m, one-in (m .small)))) in
+    rw (← difference-test s (2 ^ i) l small) (omega (arith, xor-add-and s t, again, there))
+
+-- the set without a member, where that member's bit is given by an equation
+pub without-is : (s i b r : ℕ) → s < 2 ^ 64 → Member i s → b ≡ 2 ^ i → r ≡ difference s b → (r ≡ difference s (2 ^ i)) × (r < s)
+without-is s i b r l m e d = rw (d, e) (refl, difference-less s i l m)
 
 -- ---- members from k on
 

@@ -1,7 +1,8 @@
 // Sets of numbers below 64 as u64, bit i for i: each function gives what the model's definition says.
 ghost use mathlib.Core.Path.{_≡_};
 ghost use Prim.Native.Nat.{_<_, _^_};
-ghost use Rattle.model.specs.Set.{has as member, both, either, someFrom, oneMember};
+ghost use Rattle.model.specs.Set.{has as member, Member, both, either, someFrom, oneMember};
+ghost use Rattle.bitset.specs.Difference as spec;
 
 // `i` is in `set`.
 pub fn has(set: u64, i: usize) -> bool
@@ -31,6 +32,29 @@ pub fn intersection(a: u64, b: u64) -> u64
     ensures { λ r. ⌜ r ≡ both a b ⌝ }
 {
     a & b
+}
+
+// What is in `a` and not in `b`.
+pub fn difference(a: u64, b: u64) -> u64
+    ensures { λ r. ⌜ r ≡ spec.difference a b ⌝ }
+{
+    a ^ (a & b)
+}
+
+// A member of `set`, the least.
+pub fn first_member(set: u64) -> usize
+    requires { ⌜ 0 < set ⌝ }
+    ensures { λ r. ⌜ Member r set ⌝ }
+{
+    u64::trailing_zeros(set) as usize
+}
+
+// `set` without its member `i`.
+pub fn without(set: u64, i: usize) -> u64
+    requires { ⌜ Member i set ⌝ }
+    ensures { λ r. ⌜ (r ≡ spec.difference set (2 ^ i)) × (r < set) ⌝ }
+{
+    difference(set, 1 << i)
 }
 
 // `set` has exactly one member.

@@ -203,3 +203,7 @@ below-bytes (suc k) p f h = go (p k) (below-bytes k p f (λ i l. h i (omega arit
 -- and so are the members that pass a test
 pub members-bytes : (s : ℕ) (p : ℕ → Bool) → members s p < 2 ^ 64
 members-bytes s p = below-bytes 64 (λ i. has s i && p i) (λ i. 2 ^ i) (λ i l. pow-lt l)
+
+-- and so is a union over members, where each of the sets is one
+pub union-bytes : (s : ℕ) (f : ℕ → ℕ) → ((i : ℕ) → f i < 2 ^ 64) → unionOf s f < 2 ^ 64
+union-bytes s f h = below-bytes 64 (has s) f (λ i l. h i)

@@ -38,7 +38,7 @@ module _ (a b c : List ℕ) where
         rw (more, drop-cons a i 0 (omega arith), drop-cons b i 0 (omega arith), drop-cons c i 0 (omega arith))
 
     -- where a block was stored as entry i
-    between-set : (x : Block) → blocksBetween (set a i (x .base)) (set b i (x .lower)) (set c i (x .upper)) i end ≡ x ∷ blocksBetween a b c (suc i) end
+    pub between-set : (x : Block) → blocksBetween (set a i (x .base)) (set b i (x .lower)) (set c i (x .upper)) i end ≡ x ∷ blocksBetween a b c (suc i) end
     between-set x =
         let more : end - i ≡ suc (end - suc i) = omega arith in
         rw (more, drop-set a i (x .base) (omega arith), drop-set b i (x .lower) (omega arith), drop-set c i (x .upper) (omega arith))

@@ -77,7 +77,7 @@ fn idle(block: Block) -> bool
 }
 
 // Stores a block as entry `at`.
-fn store(bases: &mut [u64], lowers: &mut [u16], uppers: &mut [u16], at: usize, block: Block)
+pub fn store(bases: &mut [u64], lowers: &mut [u16], uppers: &mut [u16], at: usize, block: Block)
     requires { ⌜ (at < length (now bases)) × (at < length (now lowers)) × (at < length (now uppers)) ⌝ }
     ensures { λ _. ⌜ now (bases .exit) ≡ set (now (bases .entry)) at (block .base) ⌝ }
     ensures { λ _. ⌜ now (lowers .exit) ≡ set (now (lowers .entry)) at (block .lower) ⌝ }
@@ -86,4 +86,16 @@ fn store(bases: &mut [u64], lowers: &mut [u16], uppers: &mut [u16], at: usize, b
     bases[at] = block.base;
     lowers[at] = block.lower;
     uppers[at] = block.upper;
+}
+
+// The block that stands as entry `at`.
+pub fn block_at(bases: &[u64], lowers: &[u16], uppers: &[u16], at: usize) -> Block
+    requires { ⌜ (at < length (now bases)) × (at < length (now lowers)) × (at < length (now uppers)) ⌝ }
+    ensures { λ r. ⌜ r ≡ numbered (now (bases .entry)) (now (lowers .entry)) (now (uppers .entry)) at ⌝ }
+{
+    Block {
+        base: bases[at],
+        lower: lowers[at],
+        upper: uppers[at],
+    }
 }

@@ -21,7 +21,7 @@ values-are (x ∷ xs) f h = ap₂ _∷_ (h 0 (omega arith)) (values-are xs (λ j
 -- a block stored as entry i of three slices
 module _ (b l u : List ℕ) (i : ℕ) (x : Block) where
   -- is there
-  stored-here : Enough b l u (suc i) → numbered (set b i (x .base)) (set l i (x .lower)) (set u i (x .upper)) i ≡ x
+  pub stored-here : Enough b l u (suc i) → numbered (set b i (x .base)) (set l i (x .lower)) (set u i (x .upper)) i ≡ x
   stored-here (eb, el, eu) = rw (getD-set-same b i (x .base) 0 eb, getD-set-same l i (x .lower) 0 el, getD-set-same u i (x .upper) 0 eu)
 
   -- and leaves the others

@@ -1,0 +1,2 @@
+-- What is in one set and not in another.
+pub mod Difference

@@ -1,0 +1,23 @@
+-- A loop over the members of a set takes one member after another out of what is left.
+-- Assumes nothing.
+use Prim.Native.Nat.{ℕ, _^_}
+use mathlib.Core.Path.{_≡_, refl}
+use mathlib.Core.Logic.{_↔_, _⊎_, inl, inr, ⊎-elim}
+use mathlib.Core.Bool.{Bool, true, false}
+use borrow.Author.Tests.{eqb-true, eqb-false}
+use lib.Dec.{eqb}
+use Rattle.model.specs.Set.{Member}
+use Rattle.model.proofs.Set.{in-one}
+use Rattle.bitset.specs.Difference.{difference}
+use Rattle.bitset.proofs.Laws.{in-difference}
+
+-- in a set: the member i, or a member without it
+pub member-or-rest : (s i : ℕ) → Member i s → {j : ℕ} → Member j s ↔ ((j ≡ i) ⊎ Member j (difference s (2 ^ i)))
+member-or-rest s i m {j} = (
+  λ n. go (eqb j i) refl n,
+  λ h. ⊎-elim (λ e. rw e m) (λ n. in-difference s (2 ^ i) .0 n .0) h,
+)
+  where
+    go : (v : Bool) → eqb j i ≡ v → Member j s → (j ≡ i) ⊎ Member j (difference s (2 ^ i))
+    go true e n = inl (eqb-true j i e)
+    go false e n = inr (in-difference s (2 ^ i) .1 (n, λ h. eqb-false j i e (in-one h)))

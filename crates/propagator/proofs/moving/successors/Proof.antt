@@ -1,0 +1,61 @@
+-- `propagator::moving::successors` meets its contract. Assumes nothing.
+use native.Mathlib.Omega.{arith}
+use Rattle.propagator.specs.Moves.{table}
+use Rattle.propagator.proofs.Collecting.{Collecting, collecting-starts}
+use Rattle.propagator.proofs.Letters.{To, moved-small, successors-more, successors-end}
+use Rattle.propagator.proofs.moving.successors.Statement.{statement}
+use Rattle.propagator.proofs.moving.successors.Tie as tie
+
+abbrev Inv-loop : tie.InvT-loop
+Inv-loop shape moves base q found₀ rest₀ found rest = Collecting (To (table shape moves) q) base rest found
+
+abbrev μ-loop : tie.MeasureT-loop
+μ-loop shape moves base q found₀ rest₀ found rest = rest
+
+loop-holds : tie.Need-loop-holds Inv-loop μ-loop
+loop-holds c = collecting-starts _ _
+
+first-member-requires : tie.Need-first-member-requires Inv-loop μ-loop
+first-member-requires c κs = omega arith
+
+next-requires : tie.Need-next-requires Inv-loop μ-loop
+next-requires c κs =
+    let loop = c .before .before in
+    let pre = loop .before .before .pre in
+    (pre .0, pre .1 _ (loop .loop .inv .within _ (c .first-member .ensures)))
+
+add-requires : tie.Need-add-requires Inv-loop μ-loop
+add-requires c κs = moved-small _ _ _ _ (c .next .ensures) (c .before .before .before .before .before .pre .0 .small)
+
+without-requires : tie.Need-without-requires Inv-loop μ-loop
+without-requires c κs = c .before .before .first-member .ensures
+
+loop-less : tie.Need-loop-less Inv-loop μ-loop
+loop-less c = c .without .ensures .1
+
+loop-again : tie.Need-loop-again Inv-loop μ-loop
+loop-again c =
+    let moved = c .before .before in
+    let loop = moved .before .before .before in
+    successors-more _ (loop .before .before .pre .0 .small) _ _ _ _ (loop .loop .inv) _ _ _ _ (moved .before .first-member .ensures)
+    (moved .next .ensures) (c .before .add .ensures) (c .without .ensures .0)
+
+returns : tie.Need-returns Inv-loop μ-loop
+returns c =
+    let loop = c .before in
+    successors-end _ (loop .before .before .pre .0 .small) _ _ _ _ (loop .loop .inv) (omega arith)
+
+pub successors-spec : {M : Type 1} → statement M
+successors-spec =
+    tie.close
+    (tie.spec
+    Inv-loop
+    μ-loop
+    loop-holds
+    first-member-requires
+    next-requires
+    add-requires
+    without-requires
+    loop-less
+    loop-again
+    returns)

@@ -1,0 +1,101 @@
+// The passes of document 01 on a book and the blocks of a mask: forward through the blocks, and back. All room is lent.
+ghost use mathlib.Core.Path.{_≡_};
+ghost use Prim.Native.Nat.{_+_, _*_, _≤_, _<_};
+ghost use lib.Dec.{T};
+ghost use lib.ListN.{length};
+ghost use Rattle.model.specs.Size.{Room};
+ghost use Rattle.model.specs.Passes.{finals, narrowedList};
+ghost use Rattle.model.specs.Verdict.{someLegal};
+ghost use Rattle.records.specs.Book.{automatonOf};
+ghost use Rattle.records.specs.Written.{blocksOf, Enough};
+ghost use Rattle.propagator.specs.Rows.{lowerSum};
+
+mod ahead;
+mod back;
+mod known;
+mod moving;
+mod optional;
+mod places;
+
+use records::Book;
+
+// How many states and letters a book has.
+pub(crate) struct Shape {
+    pub states: usize,
+    pub letters: usize,
+}
+
+// What the passes found: the states possible behind the last block, and how many entries the narrowed list has.
+pub struct Passed {
+    pub states: u64,
+    pub entries: usize,
+}
+
+// The passes over the first `count` blocks, whose sets and bounds the three slices hold. Where some code is legal, the first
+// entries of these are the narrowed list then; else nothing is said of them. `firsts`, `sets` and `known` are room.
+pub fn pass(
+    book: Book,
+    moves: &[u8],
+    bases: &mut [u64],
+    lowers: &mut [u16],
+    uppers: &mut [u16],
+    count: usize,
+    firsts: &mut [u64],
+    sets: &mut [u64],
+    known: &mut [u64],
+) -> Passed
+    requires { ⌜ (book .states < 64) × (book .start < book .states) × (book .states * book .letters ≤ length (now moves)) ⌝ }
+    requires { ⌜ Room (book .letters) (blocksOf (now bases) (now lowers) (now uppers) count) ⌝ }
+    requires { ⌜ (
+        let lowest = lowerSum (blocksOf (now bases) (now lowers) (now uppers) count) in
+        Enough (now bases) (now lowers) (now uppers) (lowest + count) × (lowest ≤ length (now sets))) ⌝ }
+    requires { ⌜ (count ≤ length (now firsts)) × (length (now known) ≡ 66) ⌝ }
+    ensures { λ r. ⌜ (
+        let b = automatonOf book (now (moves .entry)) in
+        let xs = blocksOf (now (bases .entry)) (now (lowers .entry)) (now (uppers .entry)) count in
+        (r .states ≡ finals b xs) × (r .entries ≡ lowerSum xs + count)
+        × (T (someLegal b xs)
+        → blocksOf (now (bases .exit)) (now (lowers .exit)) (now (uppers .exit)) (r .entries) ≡ narrowedList b xs)) ⌝ }
+{
+    let shape = Shape {
+        states: book.states,
+        letters: book.letters,
+    };
+    known[64] = 0;
+    let start = bitset::add(0, book.start);
+    let behind = ahead::go_ahead(
+        shape,
+        moves,
+        bases,
+        lowers,
+        uppers,
+        count,
+        start,
+        firsts,
+        sets,
+        known,
+    );
+    let passed = Passed {
+        states: behind.states,
+        entries: behind.lowers + count,
+    };
+    let end = bitset::intersection(behind.states, book.accepting);
+    if end == 0 {
+        return passed;
+    }
+    back::go_back(
+        shape,
+        moves,
+        bases,
+        lowers,
+        uppers,
+        count,
+        start,
+        firsts,
+        sets,
+        behind.states,
+        end,
+        behind.lowers,
+    );
+    passed
+}
