@@ -4,6 +4,9 @@ pub mod AllSamples
 pub mod Order
 pub mod Pairs
 pub mod Putting
+pub mod Passing
+pub mod Judging
+pub mod Narrowed
 pub mod Tidying
 pub mod Trying
 pub mod Answering

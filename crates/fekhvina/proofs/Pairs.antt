@@ -5,18 +5,20 @@ use mathlib.Core.Path.{_≡_, refl, _∙_, sym}
 use mathlib.Core.Bool.{true, false}
 use mathlib.Core.List.{List}
 use native.Mathlib.Omega.{arith}
+use Rattle.model.specs.Size.{Room}
 use Rattle.records.specs.declared.Book.{Book}
 use Rattle.records.specs.declared.BookOrRefusal.{BookOrRefusal}
 use Rattle.records.specs.declared.BookOrRefusal.the-variants as bookAnswer
 use Rattle.records.specs.declared.Mask.{Mask}
 use Rattle.records.specs.declared.MaskOrRefusal.{MaskOrRefusal}
 use Rattle.records.specs.declared.MaskOrRefusal.the-variants as maskAnswer
-use Rattle.records.specs.Book.{bookRefusal, readBook, bookNumber}
+use Rattle.records.specs.Bytes.{Bytes}
+use Rattle.records.specs.Book.{bookHead, bookRefusal, readBook, bookNumber}
 use Rattle.records.specs.Mask.{maskOf, maskRefusal, readMask, maskNumber, foreign}
 use Rattle.records.specs.WellFormed.{BookRecord, MaskRecord}
 use Rattle.records.proofs.Answers.{book-accepted, book-refused, mask-accepted, mask-refused}
-use Rattle.records.proofs.Checks.{on, off}
-use Rattle.records.proofs.WellFormed.{book-record, mask-record}
+use Rattle.records.proofs.Checks.{peel, on, off}
+use Rattle.records.proofs.WellFormed.{book-record, mask-record, record-fits}
 use Rattle.fekhvina.specs.declared.pair.Pair.{Pair}
 use Rattle.fekhvina.specs.declared.pair.PairOrRefusal.the-variants.{Accepted, Refused}
 use Rattle.fekhvina.specs.Pair.{pairRefusal, pairHead, pairOr, readPair}
@@ -81,18 +83,26 @@ pair-accepted bs ms p = go (pairRefusal bs ms)
     go zero e = (refl, cc)
     go (suc r) e = absurd (let z : _≡_ {A = ℕ} 0 1 = cc in omega arith)
 
+-- no check of either refuses them
+pub pair-checks : (bs ms : List ℕ) → pairRefusal bs ms ≡ 0
+    → (bookRefusal bs ≡ 0) × (maskRefusal ms ≡ 0) × (foreign (bookHead bs .letters) (maskOf ms) ≡ false)
+unfolding pairRefusal
+pair-checks bs ms h =
+    let (book, h) = passed-first (bookRefusal bs) _ h in
+    let (mask, h) = passed-first (maskRefusal ms) _ h in
+    (book, mask, peel _ 8 0 h .0)
+
 -- both are well-formed records
 pub pair-records : (bs ms : List ℕ) → pairRefusal bs ms ≡ 0 → BookRecord bs × MaskRecord ms
-unfolding pairRefusal
-pair-records bs ms h =
-    let (book, h) = passed-first (bookRefusal bs) _ h in
-    let (mask, _) = passed-first (maskRefusal ms) _ h in
-    (book-record bs book, mask-record ms mask)
+pair-records bs ms h = let (book, mask, _) = pair-checks bs ms h in (book-record bs book, mask-record ms mask)
+
+-- the mask has room, for the letters of the book
+pub pair-room : (bs ms : List ℕ) → Bytes ms → pairRefusal bs ms ≡ 0 → Room (bookHead bs .letters) (maskOf ms)
+pair-room bs ms bytes h =
+    let (_, mask, letters) = pair-checks bs ms h in
+    record-fits (bookHead bs .letters) ms bytes mask letters .room
 
 -- the mask is that of its own reader
 pub pair-mask : (bs ms : List ℕ) (p : Pair) → readPair bs ms ≡ Accepted p → readMask ms ≡ maskAnswer.Accepted (p .mask)
-unfolding readMask pairRefusal
-pair-mask bs ms p h =
-    let (none, head) = pair-accepted bs ms p h in
-    let (mask, _) = passed-first (maskRefusal ms) _ (passed-first (bookRefusal bs) _ none .1) in
-    rw (mask, head)
+unfolding readMask
+pair-mask bs ms p h = let (none, head) = pair-accepted bs ms p h in rw (pair-checks bs ms none .1, head)

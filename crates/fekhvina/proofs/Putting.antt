@@ -40,20 +40,20 @@ module _ (b l u : List ℕ) (first end : ℕ) (old : List ℕ) where
         fits = λ n. (omega (arith, size), rw (part-rest first b, part-rest first l, part-rest first u) at w);
       }
 
+-- a buffer is shorter than a record, or it has room
+pub short-or-room : (written old : List ℕ) → (length old < length written) ⊎ (length written ≤ length old)
+short-or-room written old = go (ltb (length old) (length written)) refl
+  where
+    go : (t : Bool) → ltb (length old) (length written) ≡ t → (length old < length written) ⊎ (length written ≤ length old)
+    go true t = inl (ltb-true (length old) (length written) t)
+    go false t = inr (ltb-false (length old) (length written) t)
+
 -- what was returned tells whether the record was written
 module _ (written old new : List ℕ) (r : ℕ) (puts : Puts written old new r) where
-  -- the buffer is shorter, or it has room
-  room : (length old < length written) ⊎ (length written ≤ length old)
-  room = go (ltb (length old) (length written)) refl
-    where
-      go : (t : Bool) → ltb (length old) (length written) ≡ t → (length old < length written) ⊎ (length written ≤ length old)
-      go true t = inl (ltb-true (length old) (length written) t)
-      go false t = inr (ltb-false (length old) (length written) t)
-
   -- 0: it is shorter, and keeps every byte
   pub put-nothing : 0 < length written → r ≡ 0 → (length old < length written) × (new ≡ old)
-  put-nothing h e = ⊎-elim (λ l. (l, puts .short l .1)) (λ l. absurd (omega (arith, puts .fits l .0))) room
+  put-nothing h e = ⊎-elim (λ l. (l, puts .short l .1)) (λ l. absurd (omega (arith, puts .fits l .0))) (short-or-room written old)
 
   -- else it has room, and the record is written
   pub put-all : ¬ (r ≡ 0) → (length written ≤ length old) × ((r ≡ length written) × (new ≡ over written old))
-  put-all n = ⊎-elim (λ l. absurd (n (puts .short l .0))) (λ l. (l, puts .fits l)) room
+  put-all n = ⊎-elim (λ l. absurd (n (puts .short l .0))) (λ l. (l, puts .fits l)) (short-or-room written old)

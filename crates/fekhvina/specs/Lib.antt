@@ -2,6 +2,8 @@
 pub mod Order
 pub mod Pair
 pub mod Buffer
+pub mod Passes
+pub mod Narrow
 pub mod Tidy
 pub mod Try
 pub mod Samples

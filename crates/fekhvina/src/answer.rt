@@ -10,7 +10,7 @@ ghost use Rattle.fekhvina.specs.Tidy.{tidyRecord};
 
 // Writes the blocks from entry `first` up to `end` of the three slices as a record over the first bytes of `out`, and returns
 // how many bytes that is. Check 10: where the buffer is shorter it writes nothing and returns 0.
-fn write_answer(
+pub(crate) fn write_answer(
     bases: &[u64],
     lowers: &[u16],
     uppers: &[u16],

@@ -2,13 +2,96 @@
 // declares them.
 ghost use mathlib.Core.Path.{_≡_};
 ghost use lib.ListN.{length};
+ghost use Rattle.model.specs.Verdict.{number as verdictNumber};
+ghost use Rattle.fekhvina.specs.Narrow.{narrowed, narrowNumbers, Narrows};
 ghost use Rattle.fekhvina.specs.Tidy.{tidied, tidyNumbers, Tidies};
 ghost use Rattle.fekhvina.specs.Try as number;
 ghost use Rattle.fekhvina.specs.Try.{tried, tryNumbers, Tries};
+use crate::NarrowAnswer;
 use crate::TidyAnswer;
 use crate::TryAnswer;
+use crate::narrow;
 use crate::tidy;
 use crate::try_word;
+use model::Verdict;
+
+// The refusal number of narrow's answer, 0 for none.
+fn narrow_refusal(answer: NarrowAnswer) -> u32
+    ensures { λ r. ⌜ r ≡ narrowNumbers answer .refusal ⌝ }
+{
+    match answer {
+        NarrowAnswer::Narrowed {
+            verdict: _,
+            bytes: _,
+        } => 0,
+        NarrowAnswer::Refused(number) => number,
+    }
+}
+
+// The number of the verdict of narrow's answer, 0 where refused.
+fn narrow_verdict(answer: NarrowAnswer) -> u32
+    ensures { λ r. ⌜ r ≡ narrowNumbers answer .verdict ⌝ }
+{
+    match answer {
+        NarrowAnswer::Narrowed { verdict, bytes: _ } => verdict_number(verdict),
+        NarrowAnswer::Refused(_) => 0,
+    }
+}
+
+// The bytes written of narrow's answer, 0 where refused.
+fn narrow_bytes(answer: NarrowAnswer) -> u32
+    ensures { λ r. ⌜ r ≡ narrowNumbers answer .bytes ⌝ }
+{
+    match answer {
+        NarrowAnswer::Narrowed { verdict: _, bytes } => bytes,
+        NarrowAnswer::Refused(_) => 0,
+    }
+}
+
+// None, all, one and some are 1 to 4.
+fn verdict_number(verdict: Verdict) -> u32
+    ensures { λ r. ⌜ r ≡ verdictNumber verdict ⌝ }
+{
+    match verdict {
+        Verdict::None => 1,
+        Verdict::All => 2,
+        Verdict::One => 3,
+        Verdict::Some => 4,
+    }
+}
+
+// Narrow's refusal number.
+#[no_mangle]
+pub extern "C" fn fekhvina_narrow_refusal(book: &[u8], mask: &[u8], out: &mut [u8]) -> u32
+    ensures { λ r. ⌜ (
+        let answer = narrowed (now (book .entry)) (now (mask .entry)) (length (now (out .entry))) in
+        (r ≡ narrowNumbers answer .refusal)
+        × Narrows (now (book .entry)) (now (mask .entry)) (now (out .entry)) (now (out .exit)) answer) ⌝ }
+{
+    narrow_refusal(narrow(book, mask, out))
+}
+
+// The number of narrow's verdict.
+#[no_mangle]
+pub extern "C" fn fekhvina_narrow_verdict(book: &[u8], mask: &[u8], out: &mut [u8]) -> u32
+    ensures { λ r. ⌜ (
+        let answer = narrowed (now (book .entry)) (now (mask .entry)) (length (now (out .entry))) in
+        (r ≡ narrowNumbers answer .verdict)
+        × Narrows (now (book .entry)) (now (mask .entry)) (now (out .entry)) (now (out .exit)) answer) ⌝ }
+{
+    narrow_verdict(narrow(book, mask, out))
+}
+
+// The bytes that narrow wrote.
+#[no_mangle]
+pub extern "C" fn fekhvina_narrow_bytes(book: &[u8], mask: &[u8], out: &mut [u8]) -> u32
+    ensures { λ r. ⌜ (
+        let answer = narrowed (now (book .entry)) (now (mask .entry)) (length (now (out .entry))) in
+        (r ≡ narrowNumbers answer .bytes)
+        × Narrows (now (book .entry)) (now (mask .entry)) (now (out .entry)) (now (out .exit)) answer) ⌝ }
+{
+    narrow_bytes(narrow(book, mask, out))
+}
 
 // The refusal number of tidy's answer, 0 for none.
 fn tidy_refusal(answer: TidyAnswer) -> u32

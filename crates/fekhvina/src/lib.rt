@@ -1,18 +1,30 @@
 // The operations of document 01 on records, and the entries that a C host calls. What they answer, write and mean stands in
 // specs/.
+ghost use Rattle.fekhvina.specs.Narrow.{Narrows};
 ghost use Rattle.fekhvina.specs.Tidy.{Tidies};
 ghost use Rattle.fekhvina.specs.Try.{Tries};
 
 mod answer;
 pub mod entries;
+mod narrowing;
 mod pair;
+mod passes;
 
 use answer::write_tidied;
+use model::Verdict;
+use narrowing::narrow_large;
+use narrowing::narrow_small;
 use pair::PairOrRefusal;
 use pair::mask_number;
 use pair::pair_number;
 use pair::read_pair;
 use records::MaskOrRefusal;
+
+// What narrow answers: the verdict and the bytes written, or the refusal.
+pub enum NarrowAnswer {
+    Narrowed { verdict: Verdict, bytes: u32 },
+    Refused(u32),
+}
 
 // What tidy answers: the bytes written, or the refusal.
 pub enum TidyAnswer {
@@ -24,6 +36,21 @@ pub enum TidyAnswer {
 pub enum TryAnswer {
     Tried { mask: bool, book: bool },
     Refused(u32),
+}
+
+// Narrow: the verdict on a book and a mask, with the narrowed mask written over the first bytes of `out`; for none nothing is
+// written. Book checks, mask checks, 9, 10. A small mask takes little of the stack.
+pub fn narrow(book: &[u8], mask: &[u8], out: &mut [u8]) -> NarrowAnswer
+    ensures { λ r. ⌜ Narrows (now (book .entry)) (now (mask .entry)) (now (out .entry)) (now (out .exit)) r ⌝ }
+{
+    let got = read_pair(book, mask);
+    let PairOrRefusal::Accepted(pair) = got else {
+        return NarrowAnswer::Refused(pair_number(got));
+    };
+    if pair.mask.blocks <= 64 && pair.mask.uppers <= 64 {
+        return narrow_small(pair, book, mask, out);
+    }
+    narrow_large(pair, book, mask, out)
 }
 
 // Tidy: writes the normal form of a mask over the first bytes of `out`. Mask checks, then 10.

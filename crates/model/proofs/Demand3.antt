@@ -44,14 +44,14 @@ say-all true true true = (λ e. absurd (omega (arith, ap number e)), λ h. absur
 say-all true true false = (λ e. absurd (omega (arith, ap number e)), λ h. absurd (h .1 tt))
 
 -- a verdict is none or it is not
-none-or-not : (v : Verdict) → (v ≡ None) ⊎ (¬ (v ≡ None))
+pub none-or-not : (v : Verdict) → (v ≡ None) ⊎ (¬ (v ≡ None))
 none-or-not None = inl refl
 none-or-not All = inr (λ e. omega (arith, ap number e))
 none-or-not One = inr (λ e. omega (arith, ap number e))
 none-or-not Some = inr (λ e. omega (arith, ap number e))
 
 -- what is not refuted by a test holds of it
-stable : (v : Bool) → ¬ (¬ T v) → T v
+pub stable : (v : Bool) → ¬ (¬ T v) → T v
 stable true h = tt
 stable false h = h (λ f. f)
 

@@ -104,7 +104,7 @@ segments-formed m (x ∷ xs) (h, hs) =
     of l u k = record { bounds = k; bytes = h .bytes; letters = h .letters }
 
 -- the narrowed list has room where the mask has
-list-room : (b : Dfa) (m : ℕ) (xs : List Block) → Room m xs → Room m (narrowedList b xs)
+pub list-room : (b : Dfa) (m : ℕ) (xs : List Block) → Room m xs → Room m (narrowedList b xs)
 unfolding narrowedList
 list-room b m xs r =
     let n = all-narrow b (2 ^ b .start) (segments xs) in

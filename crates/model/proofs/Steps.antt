@@ -11,7 +11,7 @@ use native.Mathlib.Decide.{le-ind}
 use native.Mathlib.Omega.{arith}
 use lib.Dec.{T}
 use lib.ListN.{length, replicate, length-append}
-use Rattle.model.specs.Set.{has, Member, someMember}
+use Rattle.model.specs.Set.{has, Member, someMember, either}
 use Rattle.model.specs.DashedString.{Within, nil, cons}
 use Rattle.model.specs.Automaton.{Table, next, run}
 use Rattle.model.specs.Passes.{mandatory, reach, after, before, between, rounds, atMost, toEnd, first, fewest, forward, final}
@@ -64,6 +64,11 @@ in-rounds f Q k = in-either (rounds f Q k) (f (rounds f Q k))
 -- more rounds lose nothing
 pub rounds-mono : (f : ℕ → ℕ) (Q j k : ℕ) {i : ℕ} → j ≤ k → Member i (rounds f Q j) → Member i (rounds f Q k)
 rounds-mono f Q j k {i} l h = le-ind (λ m. Member i (rounds f Q m)) h (λ m _ g. in-rounds f Q m .1 (inl g)) k l
+
+-- where a round adds nothing, no later one does
+pub rounds-stay : (f : ℕ → ℕ) (Q j k : ℕ) → either (rounds f Q j) (f (rounds f Q j)) ≡ rounds f Q j → j ≤ k → rounds f Q k ≡ rounds f Q j
+unfolding rounds
+rounds-stay f Q j k e l = le-ind (λ m. rounds f Q m ≡ rounds f Q j) refl (λ m _ g. rw g e) k l
 
 -- ---- the letters that stay
 

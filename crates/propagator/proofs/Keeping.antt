@@ -1,9 +1,8 @@
 -- A loop over the states of a set keeps those from which a letter of S leads to a state of E.
 -- Assumes nothing.
 use Prim.Native.Nat.{ℕ, _^_, _<_}
-use mathlib.Core.Path.{_≡_, refl}
+use mathlib.Core.Path.{_≡_}
 use mathlib.Core.Logic.{_↔_, _⊎_, inl, inr, ⊎-elim}
-use mathlib.Core.Bool.{Bool, true, false}
 use native.Mathlib.Omega.{arith}
 use lib.Bits.{or-lt}
 use lib.Dec.{T}
@@ -18,14 +17,6 @@ use Rattle.bitset.specs.Difference.{difference}
 use Rattle.bitset.proofs.Laws.{same-members, in-add, in-difference}
 use Rattle.propagator.specs.Moves.{leads}
 use Rattle.propagator.proofs.Gathering.{member-or-rest}
-
--- a number below 64 is in a set or not
-pub inside-or-not : (s : ℕ) {i : ℕ} → i < 64 → Member i s ⊎ ¬ Member i s
-inside-or-not s {i} h = go (has s i) refl
-  where
-    go : (v : Bool) → has s i ≡ v → Member i s ⊎ ¬ Member i s
-    go true e = inl (member h (rw e tt))
-    go false e = inr (λ m. rw e at (m .there))
 
 -- some letter of S leads from the state q to a state of E
 abbrev pub Leading : Table → ℕ → ℕ → ℕ → Type 0

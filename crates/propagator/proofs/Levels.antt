@@ -4,7 +4,6 @@ use Prim.Native.Nat.{ℕ, zero, suc, _+_, _-_, _^_, _≤_, _<_}
 use mathlib.Core.Path.{_≡_, refl, sym, _∙_}
 use mathlib.Core.Logic.{_⊎_, inl, inr, ⊎-elim}
 use mathlib.Core.Bool.{Bool, true, false}
-use native.Mathlib.Decide.{le-ind}
 use native.Mathlib.Omega.{arith}
 use lib.Bits.{and-lt, or-lt}
 use Rattle.model.specs.Set.{has, Member, both, either, someMember}
@@ -12,11 +11,12 @@ use Rattle.model.specs.DashedString.{block}
 use Rattle.model.specs.Automaton.{Table}
 use Rattle.model.specs.Passes.{before, between, rounds, atMost, toEnd, first, fewest, optional, pruned, backward}
 use Rattle.model.proofs.Set.{member, in-none, in-both, in-either, some-member}
-use Rattle.model.proofs.Steps.{in-before}
+use Rattle.model.proofs.Steps.{rounds-stay, in-before}
 use Rattle.bitset.specs.Difference.{difference}
 use Rattle.bitset.proofs.Laws.{same-test, same-members, least-in, in-difference}
 use Rattle.propagator.specs.Moves.{leads}
-use Rattle.propagator.proofs.Keeping.{inside-or-not, before-bytes, Keeping, leads-exact, keeping-more, keeping-ends}
+use Rattle.propagator.proofs.Gathering.{inside-or-not}
+use Rattle.propagator.proofs.Keeping.{before-bytes, Keeping, leads-exact, keeping-more, keeping-ends}
 
 -- ---- the next level
 
@@ -61,11 +61,6 @@ module _ (t : Table) (fits : t .states < 64) (S R level : ℕ) where
       (or-lt 64 level (before t S R level) bytes (before-bytes t S R level))
 
 -- ---- level by level
-
--- where a round adds nothing, no later one does
-rounds-stay : (f : ℕ → ℕ) (Q k n : ℕ) → either (rounds f Q k) (f (rounds f Q k)) ≡ rounds f Q k → k ≤ n → rounds f Q n ≡ rounds f Q k
-unfolding rounds
-rounds-stay f Q k n e l = le-ind (λ m. rounds f Q m ≡ rounds f Q k) refl (λ m _ g. rw g e) n l
 
 module _ (t : Table) (S R E : ℕ) where
   -- the level above

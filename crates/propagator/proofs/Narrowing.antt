@@ -14,8 +14,8 @@ use Rattle.model.proofs.Steps.{between-within, between-bytes, in-between}
 use Rattle.bitset.specs.Difference.{difference}
 use Rattle.bitset.proofs.Laws.{same-members, least-in, in-difference}
 use Rattle.propagator.specs.Moves.{leads}
-use Rattle.propagator.proofs.Gathering.{member-or-rest}
-use Rattle.propagator.proofs.Keeping.{inside-or-not, Leading, before-bytes, Keeping, leads-exact, keeping-more, keeping-ends}
+use Rattle.propagator.proofs.Gathering.{inside-or-not, member-or-rest}
+use Rattle.propagator.proofs.Keeping.{Leading, before-bytes, Keeping, leads-exact, keeping-more, keeping-ends}
 
 -- what is found of a place between Q and E, where the states of rest are still to be looked at
 pub record Narrowing (t : Table) (S Q E letters states rest : ℕ) : Type 0 where

@@ -3,10 +3,9 @@
 use Prim.Native.Nat.{ℕ, suc, _-_, _^_, _≤_, _<_}
 use mathlib.Core.Path.{_≡_, refl, sym, _∙_}
 use mathlib.Core.Logic.{_⊎_, inl, inr, ⊎-elim, ⊎-map}
-use mathlib.Core.Bool.{Bool, true, false, not}
+use mathlib.Core.Bool.{not}
 use mathlib.Core.List.{List}
 use native.Mathlib.Nat.{le-refl, sub-self}
-use native.Mathlib.Decide.{le-ind}
 use native.Mathlib.Omega.{arith}
 use lib.Bits.{or-lt, or-zero-r}
 use lib.ListN.{length}
@@ -14,29 +13,21 @@ use Rattle.model.specs.Set.{has, Member, either}
 use Rattle.model.specs.Automaton.{Table}
 use Rattle.model.specs.Passes.{after, rounds, atMost}
 use Rattle.model.proofs.Set.{member, in-either, members-bytes}
-use Rattle.model.proofs.Steps.{in-after}
+use Rattle.model.proofs.Steps.{rounds-stay, in-after}
 use Rattle.bitset.specs.Difference.{difference}
 use Rattle.bitset.proofs.Laws.{same-members, in-difference}
 use Rattle.propagator.specs.Known.{Known}
+use Rattle.propagator.proofs.Gathering.{inside-or-not}
 use Rattle.propagator.proofs.Letters.{after-bytes}
 
--- a member is in another set or not
-in-or-not : (s t : ℕ) {i : ℕ} → Member i s → Member i t ⊎ Member i (difference s t)
-in-or-not s t {i} m = go (has t i) refl
-  where
-    go : (v : Bool) → has t i ≡ v → Member i t ⊎ Member i (difference s t)
-    go true e = inl (member (m .small) (rw e tt))
-    go false e = inr (in-difference s t .1 (m, λ n. rw e at (n .there)))
+-- a member is in another set or in the difference
+in-or-left : (s t : ℕ) {i : ℕ} → Member i s → Member i t ⊎ Member i (difference s t)
+in-or-left s t m = ⊎-map (λ n. n) (λ n. in-difference s t .1 (m, n)) (inside-or-not t (m .small))
 
--- and what is not is a set of 8 bytes
+-- which is a set of 8 bytes
 difference-bytes : (s t : ℕ) → difference s t < 2 ^ 64
 unfolding difference
 difference-bytes s t = members-bytes s (λ i. not (has t i))
-
--- where a round adds nothing, none behind it does
-rounds-stay : (f : ℕ → ℕ) (Q j : ℕ) → either (rounds f Q j) (f (rounds f Q j)) ≡ rounds f Q j → (k : ℕ) → j ≤ k → rounds f Q k ≡ rounds f Q j
-unfolding rounds
-rounds-stay f Q j e = le-ind (λ k. rounds f Q k ≡ rounds f Q j) refl (λ k _ h. rw h e)
 
 -- all is what the rounds so far reach, and the states after one letter from there are in it, or after one letter from the front
 pub record Reaching (t : Table) (S Q width : ℕ) (old known : List ℕ) (all front left : ℕ) : Type 0 where
@@ -67,7 +58,7 @@ module _ (t : Table) (fits : t .states < 64) (S Q width : ℕ) (old known : List
   module _ (r new : ℕ) (stepped : r ≡ after t S front) (added : new ≡ difference r all) where
     -- a state after one letter is there, or new
     new-ahead : (x : ℕ) → Member x (after t S all) → Member x all ⊎ Member x new
-    new-ahead x m = rw added (⊎-elim inl (λ n. in-or-not r all (rw stepped n)) (reaching .ahead x m))
+    new-ahead x m = rw added (⊎-elim inl (λ n. in-or-left r all (rw stepped n)) (reaching .ahead x m))
 
     -- a new state is after one letter
     new-after : (x : ℕ) → Member x new → Member x (after t S all)
@@ -92,7 +83,7 @@ module _ (t : Table) (fits : t .states < 64) (S Q width : ℕ) (old known : List
     pub reaching-stops : new ≡ 0 → all ≡ atMost t S Q width
     reaching-stops e =
         let same : either all (after t S all) ≡ all = sym next-same ∙ rw e (or-zero-r all) in
-        reaching .reached ∙ sym (rounds-stay (after t S) Q (width - left) (rw (reaching .reached) at same) width (omega arith))
+        reaching .reached ∙ sym (rounds-stay (after t S) Q (width - left) width (rw (reaching .reached) at same) (omega arith))
 
     -- something is
     pub reaching-more : (known' : List ℕ) (all' : ℕ) → length known' ≡ length known → Known t S known' → all' ≡ either all new
