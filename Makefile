@@ -18,13 +18,13 @@ lib:
 	@rt staticlib fekhvina > $(HOSTS)/lib.log 2>&1 || { cat $(HOSTS)/lib.log; exit 1; }
 
 # Tries the archive from C. Its last line is 'N passed, 0 failed'.
-hosts: $(HOSTS)/test_entries $(HOSTS)/example
+hosts: $(HOSTS)/test $(HOSTS)/example
 	@$(HOSTS)/example | diff - hosts/c/example.out
-	@$(HOSTS)/test_entries
+	@$(HOSTS)/test
 
-TEST = hosts/c/test_entries.c hosts/c/lent.c hosts/c/stack.c
+TEST = $(addprefix hosts/c/, test.c test_tidy_try.c test_narrow.c faults.c record.c lent.c stack.c)
 
-$(HOSTS)/test_entries: lib $(TEST) hosts/c/lent.h hosts/c/stack.h include/fekhvina.h
+$(HOSTS)/test: lib $(TEST) $(wildcard hosts/c/*.h) include/fekhvina.h
 	@$(CC) $(CFLAGS) -o $@ $(TEST) $(LIB)
 
 $(HOSTS)/example: lib hosts/c/example.c include/fekhvina.h

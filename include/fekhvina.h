@@ -23,6 +23,34 @@ extern "C" {
 #endif
 
 /*
+ * Narrow: writes the narrowed mask, as a mask record, over the first bytes of the answer buffer, and gives the verdict. A code
+ * is legal where the mask spells it and the book accepts it. The narrowed mask spells every legal code and nothing that the
+ * mask does not spell, and what it keeps in a mandatory place of the mask some legal code has there.
+ *
+ * Verdicts, the first that fits: 1 none (no code is legal), 2 all (the mask has a code, and all its codes are legal), 3 one
+ * (each block of the narrowed mask has one letter, and equal bounds), 4 some.
+ * Refusals, in order: 1 to 6 (the book), 1, 2, 3, 4, 5, 7, 8 (the mask), 9 (a set with a letter that the book lacks), 10 (the
+ * answer buffer is shorter than the answer).
+ * Touches: the first 6 + 12 * blocks bytes of out, where nothing is refused and the verdict is not none. None writes nothing,
+ * and is never refused by 10: no buffer is needed to find it. An answer may be longer than the mask; an answer buffer of
+ * 6 + 12 * 1024 bytes always suffices.
+ * Cost: linear in the bytes of the records, and a few looks at each move of the book for each block and each mandatory place.
+ * Stack: under 64 kB.
+ */
+
+/* The refusal number, 0 for none. */
+uint32_t fekhvina_narrow_refusal(const uint8_t *book, size_t book_len, const uint8_t *mask, size_t mask_len, uint8_t *out,
+                                 size_t out_len);
+
+/* The verdict: 1 none, 2 all, 3 one, 4 some; 0 where refused. */
+uint32_t fekhvina_narrow_verdict(const uint8_t *book, size_t book_len, const uint8_t *mask, size_t mask_len, uint8_t *out,
+                                 size_t out_len);
+
+/* The number of bytes written, 0 where the verdict is none or the call is refused. */
+uint32_t fekhvina_narrow_bytes(const uint8_t *book, size_t book_len, const uint8_t *mask, size_t mask_len, uint8_t *out,
+                               size_t out_len);
+
+/*
  * Tidy: writes the normal form of a mask, as a mask record, over the first bytes of the answer buffer. It drops blocks that
  * spell only the empty row, then joins neighbours with equal sets; it spells exactly what the mask spells.
  *
@@ -36,6 +64,33 @@ uint32_t fekhvina_tidy_refusal(const uint8_t *mask, size_t mask_len, uint8_t *ou
 
 /* The number of bytes written, 0 where refused. */
 uint32_t fekhvina_tidy_bytes(const uint8_t *mask, size_t mask_len, uint8_t *out, size_t out_len);
+
+/*
+ * Place: what narrow leaves of one place of one block of the mask, before it drops or joins blocks: its letters and bounds.
+ * Blocks are numbered from 1. Places 1 to l of a block are the mandatory ones, with bounds 1, 1; place 0 is its optional part.
+ * Where the verdict is none, the set is empty and the bounds are 0, 0.
+ *
+ * Refusals, in order: 1 to 6 (the book), 1, 2, 3, 4, 5, 7, 8 (the mask), 9 (a set with a letter that the book lacks), 11 (a
+ * block number of 0 or above the number of blocks, or a place above the block's lower bound).
+ * Touches: nothing.
+ * Cost: as narrow. Stack: under 64 kB.
+ */
+
+/* The refusal number, 0 for none. */
+uint32_t fekhvina_place_refusal(const uint8_t *book, size_t book_len, const uint8_t *mask, size_t mask_len, uint32_t block,
+                                uint32_t place);
+
+/* The set, bit c for letter c; 0 where the verdict is none or the call is refused. */
+uint64_t fekhvina_place_set(const uint8_t *book, size_t book_len, const uint8_t *mask, size_t mask_len, uint32_t block,
+                            uint32_t place);
+
+/* The lower bound; 0 where the verdict is none or the call is refused. */
+uint32_t fekhvina_place_lower(const uint8_t *book, size_t book_len, const uint8_t *mask, size_t mask_len, uint32_t block,
+                              uint32_t place);
+
+/* The upper bound; 0 where the verdict is none or the call is refused. */
+uint32_t fekhvina_place_upper(const uint8_t *book, size_t book_len, const uint8_t *mask, size_t mask_len, uint32_t block,
+                              uint32_t place);
 
 /*
  * Try: whether the mask spells a code, and whether the book accepts it. A code has one letter number a byte. The two answers

@@ -6,6 +6,7 @@ use Rattle.model.specs.Automaton.{next}
 use Rattle.model.specs.Passes.{reach, after, before, between, rounds, first, fewest, forward, backward, pruned, final, kept, entries, finals, narrowedList}
 use Rattle.model.specs.NormalForm.{dropped, join, joined, normal}
 use Rattle.model.specs.Verdict.{narrowedMask, single, every, someLegal, someIllegal, verdict}
+use Rattle.model.specs.Place.{place}
 use Rattle.model.specs.Membership.{contains, within, piece, spells, accepts}
 use Rattle.records.specs.Bytes.{numberAt, bytesOf, over}
 use Rattle.records.specs.Check.{refuse, some, unframed}
@@ -15,12 +16,13 @@ use Rattle.records.specs.Written.{blockBytes, blocksBytes, headBytes, maskBytes
 use Rattle.membership.specs.Word.{strange}
 use Rattle.fekhvina.specs.Pair.{pairRefusal}
 use Rattle.fekhvina.specs.Narrow.{narrowRecord, narrowRefusal, narrowed, narrowBuffer}
+use Rattle.fekhvina.specs.Placed.{missing, placeRefusal, placed}
 use Rattle.fekhvina.specs.Tidy.{tidyRecord, tidyRefusal, tidied, tidyBuffer}
 use Rattle.fekhvina.specs.Try.{tryRefusal, tried}
 use Rattle.fekhvina.specs.Samples.{AllHold, samples}
 
--- narrow, tidy and try
+-- narrow, place, tidy and try
 pub all-samples : AllHold samples
-unfolding has someBelow unionBelow someFrom oneMember next reach after before between rounds first fewest forward backward pruned final kept entries finals narrowedList narrowedMask single every someLegal someIllegal verdict dropped join joined normal contains within piece spells accepts numberAt bytesOf over refuse some unframed bookHead movesOf outOfRange unnamed bookChecks blockFrom blocksFrom maskOf maskRefusal foreign blockBytes blocksBytes headBytes maskBytes strange pairRefusal narrowRecord narrowRefusal narrowed narrowBuffer tidyRecord tidyRefusal tidied tidyBuffer tryRefusal tried samples
+unfolding has someBelow unionBelow someFrom oneMember next reach after before between rounds first fewest forward backward pruned final kept entries finals narrowedList narrowedMask single every someLegal someIllegal verdict place dropped join joined normal contains within piece spells accepts numberAt bytesOf over refuse some unframed bookHead movesOf outOfRange unnamed bookChecks blockFrom blocksFrom maskOf maskRefusal foreign blockBytes blocksBytes headBytes maskBytes strange pairRefusal narrowRecord narrowRefusal narrowed narrowBuffer missing placeRefusal placed tidyRecord tidyRefusal tidied tidyBuffer tryRefusal tried samples
 all-samples =
-    ((refl, refl), ((refl, refl), ((refl, refl), ((refl, refl), ((refl, refl), ((refl, refl), ((refl, refl), ((refl, refl), ((refl, refl), ((refl, refl), ((refl, refl), (refl, (refl, (refl, (refl, (refl, (refl, (refl, (refl, tt)))))))))))))))))))
+    ((refl, refl), ((refl, refl), ((refl, refl), ((refl, refl), ((refl, refl), ((refl, refl), ((refl, refl), (refl, (refl, (refl, (refl, (refl, (refl, (refl, (refl, (refl, (refl, ((refl, refl), ((refl, refl), ((refl, refl), ((refl, refl), (refl, (refl, (refl, (refl, (refl, (refl, (refl, (refl, tt)))))))))))))))))))))))))))))

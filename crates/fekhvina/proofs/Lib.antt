@@ -7,6 +7,8 @@ pub mod Putting
 pub mod Passing
 pub mod Judging
 pub mod Narrowed
+pub mod EntryNumbers
+pub mod Placed
 pub mod Tidying
 pub mod Trying
 pub mod Answering

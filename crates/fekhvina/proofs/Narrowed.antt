@@ -42,7 +42,7 @@ use Rattle.fekhvina.specs.Narrow.{written, narrowRecord, narrowRefusal, 
 use Rattle.fekhvina.proofs.Order.{refused-first}
 use Rattle.fekhvina.proofs.Pairs.{pair-refused, pair-accepted, pair-checks, pair-room}
 use Rattle.fekhvina.proofs.Putting.{short-or-room, put-nothing, put-all}
-use Rattle.fekhvina.proofs.Judging.{legal-test}
+use Rattle.fekhvina.proofs.Passing.{found-legal}
 
 -- ---- a verdict answered with its record, or 10
 
@@ -186,10 +186,8 @@ module _
   none : pairRefusal bs ms ≡ 0
   none = pair-accepted bs ms p read .0
 
-  -- no code is legal, or some is
   legal : ((r ≡ 0) → someLegal (bookOf bs) (maskOf ms) ≡ false) × (¬ (r ≡ 0) → someLegal (bookOf bs) (maskOf ms) ≡ true)
-  unfolding someLegal
-  legal = rw (shared, ← found .states, pair-accepted bs ms p read .1) (legal-test s (bookHead bs .accepting) small)
+  legal = found-legal bs ms p read s ys small found r shared
 
   -- the narrowed list has room
   pub list-fits : ¬ (r ≡ 0) → Room 64 ys

@@ -1,33 +1,30 @@
 -- What the passes need of a book and a mask that are accepted, and what they find.
 -- Assumes nothing.
-use Prim.Native.Nat.{ℕ, _+_, _-_, _*_, _≤_, _<_}
+use Prim.Native.Nat.{ℕ, _+_, _-_, _*_, _^_, _≤_, _<_}
 use mathlib.Core.Path.{_≡_}
-use mathlib.Core.List.{List, [], _∷_}
+use mathlib.Core.Bool.{true, false}
+use mathlib.Core.List.{List}
 use native.Mathlib.Omega.{arith}
 use lib.Dec.{T}
 use lib.ListN.{length, take, drop, length-drop}
 use Rattle.model.specs.declared.Block.{Block}
-use Rattle.model.specs.DashedString.{Each, Bounded}
+use Rattle.model.specs.Set.{both}
 use Rattle.model.specs.Passes.{finals, narrowedList}
 use Rattle.model.specs.Verdict.{someLegal}
 use Rattle.model.specs.Size.{uppers, Room}
 use Rattle.records.specs.Bytes.{Bytes}
-use Rattle.records.specs.Book.{movesOf, automatonOf, bookOf}
+use Rattle.records.specs.Book.{bookHead, movesOf, automatonOf, bookOf}
 use Rattle.records.specs.Mask.{count, maskOf}
 use Rattle.records.proofs.Answers.{mask-holds}
 use Rattle.records.proofs.Over.{part-rest}
 use Rattle.propagator.specs.Rows.{lowerSum}
+use Rattle.propagator.proofs.Rows.{sum-uppers}
 use Rattle.fekhvina.specs.declared.pair.Pair.{Pair}
 use Rattle.fekhvina.specs.declared.pair.PairOrRefusal.the-variants.{Accepted}
 use Rattle.fekhvina.specs.Pair.{readPair}
 use Rattle.fekhvina.specs.Passes.{Found}
+use Rattle.fekhvina.proofs.Judging.{legal-test}
 use Rattle.fekhvina.proofs.Pairs.{pair-accepted, pair-records, pair-mask, pair-room}
-
--- lower bounds sum to no more than upper bounds
-lowers-uppers : (xs : List Block) → Each Bounded xs → lowerSum xs ≤ uppers xs
-unfolding lowerSum
-lowers-uppers [] h = omega arith
-lowers-uppers (x ∷ xs) (h, hs) = omega (arith, lowers-uppers xs hs)
 
 -- a book and a mask that are accepted; the moves are lent from byte 15 on
 module _ (bs ms : List ℕ) (p : Pair) (read : readPair bs ms ≡ Accepted p) where
@@ -62,7 +59,7 @@ module _ (bs ms : List ℕ) (p : Pair) (read : readPair bs ms ≡ Accepted p) wh
     pub letters-few : lowerSum xs ≤ p .mask .uppers
     letters-few =
         let (none, head) = pair-accepted bs ms p read in
-        rw (head, copied) (lowers-uppers (maskOf ms) (pair-records bs ms none .1 .bounds))
+        rw (head, copied) (sum-uppers (maskOf ms) (pair-records bs ms none .1 .bounds))
 
     -- what the passes found of them
     pub passes-found : (s : ℕ) (ys : List Block) → s ≡ finals (automatonOf (p .book) moves) xs
@@ -72,3 +69,10 @@ module _ (bs ms : List ℕ) (p : Pair) (read : readPair bs ms ≡ Accepted p) wh
     passes-found s ys e list =
         let (_, head) = pair-accepted bs ms p read in
         record { states = rw (head, part-rest 15 bs, copied) at e; list = rw (head, part-rest 15 bs, copied) at list }
+
+  -- no code is legal, or some is, by the states among those found that accept
+  pub found-legal : (s : ℕ) (ys : List Block) → s < 2 ^ 64 → Found (bookOf bs) (maskOf ms) s ys → (r : ℕ) → r ≡ both s (p .book .accepting)
+      → ((r ≡ 0) → someLegal (bookOf bs) (maskOf ms) ≡ false) × (¬ (r ≡ 0) → someLegal (bookOf bs) (maskOf ms) ≡ true)
+  unfolding someLegal
+  found-legal s ys small found r shared =
+      rw (shared, ← found .states, pair-accepted bs ms p read .1) (legal-test s (bookHead bs .accepting) small)

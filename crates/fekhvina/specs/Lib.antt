@@ -4,6 +4,7 @@ pub mod Pair
 pub mod Buffer
 pub mod Passes
 pub mod Narrow
+pub mod Placed
 pub mod Tidy
 pub mod Try
 pub mod Samples

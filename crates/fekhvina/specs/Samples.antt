@@ -1,4 +1,4 @@
--- Narrow, tidy and try on a few records: what 01 expects of them, and inputs with two faults, of which the first check in order decides.
+-- The operations on a few records: what 01 expects of them, and inputs with two faults, of which the first check in order decides.
 use Prim.Native.Nat.{ℕ}
 use mathlib.Core.Path.{_≡_}
 use mathlib.Core.Bool.{true, false}
@@ -9,24 +9,30 @@ use Rattle.model.specs.DashedString.{block}
 use Rattle.records.specs.Written.{maskBytes}
 use Rattle.fekhvina.specs.declared.NarrowAnswer.{NarrowAnswer}
 use Rattle.fekhvina.specs.declared.NarrowAnswer.the-variants as narrow
+use Rattle.fekhvina.specs.declared.PlaceAnswer.{PlaceAnswer}
+use Rattle.fekhvina.specs.declared.PlaceAnswer.the-variants as place
 use Rattle.fekhvina.specs.declared.TidyAnswer.{TidyAnswer}
 use Rattle.fekhvina.specs.declared.TidyAnswer.the-variants as tidy
 use Rattle.fekhvina.specs.declared.TryAnswer.{TryAnswer}
 use Rattle.fekhvina.specs.declared.TryAnswer.the-variants as try
 use Rattle.fekhvina.specs.Narrow.{narrowed, narrowBuffer}
+use Rattle.fekhvina.specs.Placed.{placed}
 use Rattle.fekhvina.specs.Tidy.{tidied, tidyBuffer}
 use Rattle.fekhvina.specs.Try.{tried}
 
--- a book, a mask and an answer buffer, with narrow's answer and the buffer behind it; a mask and an answer buffer, with tidy's answer
--- and the buffer behind it; a book, a mask and a code, with try's answer
+-- a book, a mask and an answer buffer, with narrow's answer and the buffer behind it; a book, a mask, a block number and a place,
+-- with place's answer; a mask and an answer buffer, with tidy's answer and the buffer behind it; a book, a mask and a code, with
+-- try's answer
 pub data Row : Type 0 where
   narrows : List ℕ → List ℕ → List ℕ → NarrowAnswer → List ℕ → Row
+  places : List ℕ → List ℕ → ℕ → ℕ → PlaceAnswer → Row
   tidies : List ℕ → List ℕ → TidyAnswer → List ℕ → Row
   tries : List ℕ → List ℕ → List ℕ → TryAnswer → Row
 
 -- the definitions give what the row says
 abbrev pub Holds : Row → Type 0
 Holds (narrows bs ms old a new) = (narrowed bs ms (length old) ≡ a) × (narrowBuffer bs ms old ≡ new)
+Holds (places bs ms i j a) = placed bs ms i j ≡ a
 Holds (tidies ms old a new) = (tidied ms (length old) ≡ a) × (tidyBuffer ms old ≡ new)
 Holds (tries bs ms w a) = tried bs ms w ≡ a
 
@@ -51,6 +57,10 @@ C = 0x11 ∷ 0 ∷ 1 ∷ 0 ∷ 1 ∷ 2 ∷ 0 ∷ 1 ∷ replicate 7 0 ++ 0 ∷ 0 
 abbrev pub upToTwo : List ℕ
 upToTwo = maskBytes (block 0b111 0 2 ∷ [])
 
+-- {0,1,2} 2–2 (01, "Trials at the stake")
+abbrev pub two : List ℕ
+two = maskBytes (block 0b111 2 2 ∷ [])
+
 -- {0} 0–1, {1} 0–0, {0} 0–1 (01, "Faults we would expect")
 abbrev pub apart : List ℕ
 apart = maskBytes (block 0b01 0 1 ∷ block 0b10 0 0 ∷ block 0b01 0 1 ∷ [])
@@ -67,7 +77,7 @@ foreign = maskBytes (block 0b100 0 1 ∷ [])
 abbrev pub filled : ℕ → List ℕ
 filled k = replicate k 0xEE
 
--- narrow, tidy, try
+-- narrow, place, tidy, try
 unfoldable pub samples : List Row
 samples =
     -- some, and the bytes behind keep their contents; a byte less than needed
@@ -80,6 +90,18 @@ samples =
     -- a bad mask and no byte; 9 and no byte
     ∷ narrows C (4 ∷ 0 ∷ 1 ∷ 0 ∷ []) [] (narrow.Refused 2) []
     ∷ narrows C foreign [] (narrow.Refused 9) []
+    -- two places and no optional part behind them; an optional part alone; a place of a second block; none
+    ∷ places B two 1 1 (place.Placed (block 0b011 1 1))
+    ∷ places B two 1 2 (place.Placed (block 0b100 1 1))
+    ∷ places B two 1 0 (place.Placed (block 0 0 0))
+    ∷ places A upToTwo 1 0 (place.Placed (block 0b111 1 2))
+    ∷ places C greedy 2 1 (place.Placed (block 0b01 1 1))
+    ∷ places B (maskBytes (block 0b100 1 3 ∷ [])) 1 0 (place.Placed (block 0 0 0))
+    -- block 0; a block above k; a place above l; 9 and 11
+    ∷ places B two 0 0 (place.Refused 11)
+    ∷ places B two 2 0 (place.Refused 11)
+    ∷ places B two 1 3 (place.Refused 11)
+    ∷ places C foreign 0 0 (place.Refused 9)
     -- joining comes after dropping, and the bytes behind keep their contents; a byte less than needed; a mask cut off, and no byte
     ∷ tidies apart (filled 20) (tidy.Written 18) (maskBytes (block 0b01 0 2 ∷ []) ++ filled 2)
     ∷ tidies apart (filled 17) (tidy.Refused 10) (filled 17)

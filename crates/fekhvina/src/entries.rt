@@ -4,10 +4,12 @@ ghost use mathlib.Core.Path.{_≡_};
 ghost use lib.ListN.{length};
 ghost use Rattle.model.specs.Verdict.{number as verdictNumber};
 ghost use Rattle.fekhvina.specs.Narrow.{narrowed, narrowNumbers, Narrows};
+ghost use Rattle.fekhvina.specs.Placed.{placed, placeNumbers, Places};
 ghost use Rattle.fekhvina.specs.Tidy.{tidied, tidyNumbers, Tidies};
 ghost use Rattle.fekhvina.specs.Try as number;
 ghost use Rattle.fekhvina.specs.Try.{tried, tryNumbers, Tries};
 use crate::NarrowAnswer;
+use crate::PlaceAnswer;
 use crate::TidyAnswer;
 use crate::TryAnswer;
 use crate::narrow;
@@ -91,6 +93,86 @@ pub extern "C" fn fekhvina_narrow_bytes(book: &[u8], mask: &[u8], out: &mut [u8]
         × Narrows (now (book .entry)) (now (mask .entry)) (now (out .entry)) (now (out .exit)) answer) ⌝ }
 {
     narrow_bytes(narrow(book, mask, out))
+}
+
+// The refusal number of place's answer, 0 for none.
+fn place_refusal(answer: PlaceAnswer) -> u32
+    ensures { λ r. ⌜ r ≡ placeNumbers answer .refusal ⌝ }
+{
+    match answer {
+        PlaceAnswer::Placed(_) => 0,
+        PlaceAnswer::Refused(number) => number,
+    }
+}
+
+// The set of place's answer, empty where refused.
+fn place_set(answer: PlaceAnswer) -> u64
+    ensures { λ r. ⌜ r ≡ placeNumbers answer .set ⌝ }
+{
+    match answer {
+        PlaceAnswer::Placed(block) => block.base,
+        PlaceAnswer::Refused(_) => 0,
+    }
+}
+
+// The lower bound of place's answer, 0 where refused.
+fn place_lower(answer: PlaceAnswer) -> u32
+    ensures { λ r. ⌜ r ≡ placeNumbers answer .lower ⌝ }
+{
+    match answer {
+        PlaceAnswer::Placed(block) => block.lower as u32,
+        PlaceAnswer::Refused(_) => 0,
+    }
+}
+
+// The upper bound of place's answer, 0 where refused.
+fn place_upper(answer: PlaceAnswer) -> u32
+    ensures { λ r. ⌜ r ≡ placeNumbers answer .upper ⌝ }
+{
+    match answer {
+        PlaceAnswer::Placed(block) => block.upper as u32,
+        PlaceAnswer::Refused(_) => 0,
+    }
+}
+
+// Place's refusal number.
+#[no_mangle]
+pub extern "C" fn fekhvina_place_refusal(book: &[u8], mask: &[u8], block: u32, place: u32) -> u32
+    ensures { λ r. ⌜ (
+        let answer = placed (now (book .entry)) (now (mask .entry)) block place in
+        (r ≡ placeNumbers answer .refusal) × Places (now (book .entry)) (now (mask .entry)) block place answer) ⌝ }
+{
+    place_refusal(crate::place(book, mask, block, place))
+}
+
+// The set that place found.
+#[no_mangle]
+pub extern "C" fn fekhvina_place_set(book: &[u8], mask: &[u8], block: u32, place: u32) -> u64
+    ensures { λ r. ⌜ (
+        let answer = placed (now (book .entry)) (now (mask .entry)) block place in
+        (r ≡ placeNumbers answer .set) × Places (now (book .entry)) (now (mask .entry)) block place answer) ⌝ }
+{
+    place_set(crate::place(book, mask, block, place))
+}
+
+// Its lower bound.
+#[no_mangle]
+pub extern "C" fn fekhvina_place_lower(book: &[u8], mask: &[u8], block: u32, place: u32) -> u32
+    ensures { λ r. ⌜ (
+        let answer = placed (now (book .entry)) (now (mask .entry)) block place in
+        (r ≡ placeNumbers answer .lower) × Places (now (book .entry)) (now (mask .entry)) block place answer) ⌝ }
+{
+    place_lower(crate::place(book, mask, block, place))
+}
+
+// Its upper bound.
+#[no_mangle]
+pub extern "C" fn fekhvina_place_upper(book: &[u8], mask: &[u8], block: u32, place: u32) -> u32
+    ensures { λ r. ⌜ (
+        let answer = placed (now (book .entry)) (now (mask .entry)) block place in
+        (r ≡ placeNumbers answer .upper) × Places (now (book .entry)) (now (mask .entry)) block place answer) ⌝ }
+{
+    place_upper(crate::place(book, mask, block, place))
 }
 
 // The refusal number of tidy's answer, 0 for none.

@@ -1,6 +1,7 @@
 // The operations of document 01 on records, and the entries that a C host calls. What they answer, write and mean stands in
 // specs/.
 ghost use Rattle.fekhvina.specs.Narrow.{Narrows};
+ghost use Rattle.fekhvina.specs.Placed.{Places};
 ghost use Rattle.fekhvina.specs.Tidy.{Tidies};
 ghost use Rattle.fekhvina.specs.Try.{Tries};
 
@@ -9,8 +10,10 @@ pub mod entries;
 mod narrowing;
 mod pair;
 mod passes;
+mod placing;
 
 use answer::write_tidied;
+use model::Block;
 use model::Verdict;
 use narrowing::narrow_large;
 use narrowing::narrow_small;
@@ -18,11 +21,19 @@ use pair::PairOrRefusal;
 use pair::mask_number;
 use pair::pair_number;
 use pair::read_pair;
+use placing::missing;
+use placing::place_entry;
 use records::MaskOrRefusal;
 
 // What narrow answers: the verdict and the bytes written, or the refusal.
 pub enum NarrowAnswer {
     Narrowed { verdict: Verdict, bytes: u32 },
+    Refused(u32),
+}
+
+// What place answers: the set and bounds of an entry of the narrowed list, or the refusal.
+pub enum PlaceAnswer {
+    Placed(Block),
     Refused(u32),
 }
 
@@ -69,6 +80,23 @@ pub fn tidy(mask: &[u8], out: &mut [u8]) -> TidyAnswer
         return TidyAnswer::Refused(10);
     }
     TidyAnswer::Written(size)
+}
+
+// Place: the set and bounds of a block, from 1, and a place, in the narrowed list before dropping or joining; place 0 is the
+// optional part. Book checks, mask checks, 9, 11.
+pub fn place(book: &[u8], mask: &[u8], block: u32, place: u32) -> PlaceAnswer
+    ensures { λ r. ⌜ Places (now (book .entry)) (now (mask .entry)) block place r ⌝ }
+{
+    let got = read_pair(book, mask);
+    let PairOrRefusal::Accepted(pair) = got else {
+        return PlaceAnswer::Refused(pair_number(got));
+    };
+    let block = block as usize;
+    let place = place as usize;
+    if missing(mask, pair.mask.blocks, block, place) {
+        return PlaceAnswer::Refused(11);
+    }
+    PlaceAnswer::Placed(place_entry(pair, book, mask, block, place))
 }
 
 // Try: whether the mask spells a code, one letter number a byte, and whether the book accepts it. Book checks, mask checks,

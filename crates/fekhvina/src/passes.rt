@@ -4,6 +4,7 @@ ghost use Prim.Native.Nat.{_+_, _≤_};
 ghost use Rattle.records.specs.Book.{bookOf};
 ghost use Rattle.records.specs.Mask.{maskOf};
 ghost use Rattle.records.specs.Written.{blocksOf};
+ghost use Rattle.propagator.specs.Rows.{lowerSum};
 ghost use Rattle.fekhvina.specs.declared.pair.PairOrRefusal.the-variants.{Accepted};
 ghost use Rattle.fekhvina.specs.Pair.{readPair};
 ghost use Rattle.fekhvina.specs.Passes.{Lent, Found};
@@ -26,7 +27,8 @@ pub(crate) fn pass_mask(
     requires { ⌜ Lent (pair .mask) (now bases) (now lowers) (now uppers) (now firsts) (now sets) (now known) ⌝ }
     ensures { λ r. ⌜ (
         let ys = blocksOf (now (bases .exit)) (now (lowers .exit)) (now (uppers .exit)) (r .entries) in
-        (r .entries ≤ pair .mask .uppers + pair .mask .blocks)
+        (r .entries ≡ lowerSum (maskOf (now (mask .entry))) + pair .mask .blocks)
+        × (r .entries ≤ pair .mask .uppers + pair .mask .blocks)
         × Found (bookOf (now (book .entry))) (maskOf (now (mask .entry))) (r .states) ys) ⌝ }
 {
     let blocks = pair.mask.blocks;

@@ -8,11 +8,12 @@ use lib.ListN.{length, take, drop, replicate}
 use lib.Seq.{take-suc, take-length, drop-cons}
 use Rattle.model.specs.declared.Block.{Block}
 use Rattle.model.specs.Set.{has, Member, both, someMember}
-use Rattle.model.specs.DashedString.{block, blockAt, Each}
+use Rattle.model.specs.DashedString.{block, blockAt, Each, Bounded}
 use Rattle.model.specs.Size.{uppers, WellFormed, Room}
 use Rattle.model.specs.Automaton.{Table, Dfa, next}
 use Rattle.model.specs.Passes.{Segment, mandatory, optional, segmentsOf, segments, after, atMost, toEnd, forward, backward, before, pruned, final, kept, entries, finals, narrowedList}
 use Rattle.model.proofs.Set.{in-both, in-members}
+use Rattle.records.proofs.Checks.{each-map}
 use Rattle.propagator.specs.Moves.{exactly}
 use Rattle.propagator.specs.Rows.{keptTo, entriesTo, lowerSum, entering, Inside, Places, setBefore}
 
@@ -44,13 +45,14 @@ pub sum-all : (xs : List Block) (n : ℕ) → length xs ≡ n → lowerSum (take
 sum-all xs n e = rw (← e, take-length)
 
 -- at most that of the upper bounds
-sum-uppers : (m : ℕ) (xs : List Block) → Each (WellFormed m) xs → lowerSum xs ≤ uppers xs
+pub sum-uppers : (xs : List Block) → Each Bounded xs → lowerSum xs ≤ uppers xs
 unfolding lowerSum
-sum-uppers m [] e = omega arith
-sum-uppers m (x ∷ xs) e = omega (arith, e .0 .bounds, sum-uppers m xs (e .1))
+sum-uppers [] e = omega arith
+sum-uppers (x ∷ xs) (h, e) = omega (arith, sum-uppers xs e)
 
+-- and so at most 1,024
 pub sum-small : (m : ℕ) (xs : List Block) → Room m xs → lowerSum xs ≤ 1024
-sum-small m xs r = omega (arith, sum-uppers m xs (r .each), r .sum)
+sum-small m xs r = omega (arith, sum-uppers xs (each-map (WellFormed m) Bounded (λ x f. f .bounds) xs (r .each)), r .sum)
 
 -- ---- the states before each block
 

@@ -44,7 +44,7 @@ each-at P (x ∷ xs) e (suc i) h = each-at P xs (e .1) i (omega arith)
 
 module _ (a b c : List ℕ) where
   -- entry i of the first k
-  entry-at : (k i : ℕ) → i < k → blockAt (blocksOf a b c k) i ≡ numbered a b c i
+  pub entry-at : (k i : ℕ) → i < k → blockAt (blocksOf a b c k) i ≡ numbered a b c i
   entry-at k i h = values-at (numbered a b c) k i h
 
   -- a block read there

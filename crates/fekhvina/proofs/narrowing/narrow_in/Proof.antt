@@ -39,7 +39,7 @@ returns : tie.Need-returns
 returns c =
     let passed = c .before .before .before .before .before .before .before .before .before .before .before .before .before .before in
     let known = passed .before .before .before .before .before .before .before .before .before .before .before .before .before .before in
-    let (few, found) = passed .pass-mask .ensures in
+    let (_, few, found) = passed .pass-mask .ensures in
     narrow-none _ _ _ (known .before .before .pre .0) (bytes known) _ _ (omega arith) found _ (c .before .intersection .ensures) _ (c .if1 .taken)
 
 conclude-requires : tie.Need-conclude-requires
@@ -48,7 +48,7 @@ conclude-requires c κs =
     let passed = some .before .before .before .before .before .before .before .before .before .before .before .before .before .before in
     let known = passed .before .before .before .before .before .before .before .before .before .before .before .before .before .before in
     let read = known .before .before .pre .0 in
-    let (few, found) = passed .pass-mask .ensures in
+    let (_, few, found) = passed .pass-mask .ensures in
     let room = list-fits _ _ _ read (bytes known) _ _ (omega arith) found _ (some .before .intersection .ensures) (some .if1 .left) in
     let kept = c .before .before .before .before .before .before .before .before .before .before .before .before .before .uppers .given in
     (omega (arith, few, kept), (omega (arith, few, few-blocks _ _ _ read), room))
@@ -80,7 +80,7 @@ returns-2 c =
     let some = done .before .before .before .before .before in
     let passed = some .before .before .before .before .before .before .before .before .before .before .before .before .before .before in
     let known = passed .before .before .before .before .before .before .before .before .before .before .before .before .before .before in
-    let (few, found) = passed .pass-mask .ensures in
+    let (_, few, found) = passed .pass-mask .ensures in
     narrow-some _ _ _ (known .before .before .pre .0) (bytes known) _ _ (omega arith) found _ (some .before .intersection .ensures)
     _ _ _ (some .if1 .left) (done .conclude .ensures)
 

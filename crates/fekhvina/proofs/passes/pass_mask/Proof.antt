@@ -67,6 +67,7 @@ returns c =
     let start = read .before .before .before .before .before .before .before .before .before .before .before .before in
     let copied = read .read-blocks .ensures in
     let (states, size, list) = passed .pass .ensures in (
+      rw copied at size,
       omega (arith, size, letters-few _ _ _ (start .pre .0) _ copied),
       passes-found _ _ _ (start .pre .0) _ copied _ _ states list,
     )

@@ -1,95 +1,14 @@
-/*
- * Tries the C entries of the proved archive as a host calls them. What is expected is written from document 01 by hand. Each
- * line of a table is one case; the last line printed is 'N passed, M failed'.
- */
+/* Tries the C entries of tidy and try: see test.h. */
+#include "books.h"
+#include "faults.h"
 #include "fekhvina.h"
 #include "lent.h"
+#include "record.h"
 #include "stack.h"
+#include "test.h"
 
 #include <stdio.h>
 #include <string.h>
-
-/* ---- records */
-
-#define LETTER(c) (UINT64_C(1) << (c))
-
-/* A block: at least lower and at most upper letters of set. */
-struct block {
-    uint64_t set;
-    uint16_t lower, upper;
-};
-
-/* The bytes of a record. */
-struct bytes {
-    size_t len;
-    uint8_t at[LONGEST];
-};
-
-static void add(struct bytes *to, uint64_t number, int width)
-{
-    for (int i = 0; i < width; i++) {
-        to->at[to->len++] = (uint8_t)(number >> (8 * i));
-    }
-}
-
-static void mask_head(struct bytes *to, unsigned blocks)
-{
-    to->len = 0;
-    add(to, 6 + 12 * blocks, 2);
-    add(to, 2, 2);
-    add(to, blocks, 2);
-}
-
-static void mask_block(struct bytes *to, struct block block)
-{
-    add(to, block.set, 8);
-    add(to, block.lower, 2);
-    add(to, block.upper, 2);
-}
-
-static void mask_record(struct bytes *to, const struct block *blocks, unsigned count)
-{
-    mask_head(to, count);
-    for (unsigned i = 0; i < count; i++) {
-        mask_block(to, blocks[i]);
-    }
-}
-
-/* The bytes of a text in hex: two digits each, single blanks between them. */
-static void hex(struct bytes *to, const char *text)
-{
-    unsigned byte;
-    to->len = 0;
-    for (; sscanf(text, "%2x", &byte) == 1; text += 3) {
-        to->at[to->len++] = (uint8_t)byte;
-        if (text[2] == '\0') {
-            return;
-        }
-    }
-}
-
-/* A mask of the same block, again and again, or of two by turns. */
-static void mask_repeated(struct bytes *to, struct block even, struct block odd, unsigned count)
-{
-    mask_head(to, count);
-    for (unsigned i = 0; i < count; i++) {
-        mask_block(to, i % 2 == 0 ? even : odd);
-    }
-}
-
-/* ---- counting */
-
-static int passed, failed;
-
-static void count(const char *operation, const char *name, int holds)
-{
-    if (holds) {
-        passed++;
-    } else {
-        failed++;
-        printf("FAILED %s: %s\n", operation, name);
-    }
-}
 
 /* ---- tidy */
 
@@ -175,56 +94,7 @@ static void tidy_refuses(const char *name, uint32_t refusal)
     count("tidy", name, tidy_is(mask, in.len, 0, refusal, &answer) && tidy_is(mask, in.len, 20000, refusal, &answer));
 }
 
-/* ---- masks that are refused */
-
-struct fault {
-    const char *name;
-    uint32_t refusal;
-    const char *bytes; /* in hex */
-};
-
-/* The set {0}, in a block. */
-#define SET "01 00 00 00 00 00 00 00 "
-
-static const struct fault mask_faults[] = {
-    {"no bytes", 1, ""},
-    {"one byte", 1, "01"},
-    {"three bytes", 1, "03 00 02"},
-    {"a length field of one less", 1, "11 00 02 00 01 00 " SET "00 00 02 00"},
-    {"a length field of one more", 1, "13 00 02 00 01 00 " SET "00 00 02 00"},
-    {"a length field that is right in its low byte", 1, "12 01 02 00 01 00 " SET "00 00 02 00"},
-    {"a length field the other way round", 1, "00 12 02 00 01 00 " SET "00 00 02 00"},
-    {"a kind of 1", 2, "12 00 01 00 01 00 " SET "00 00 02 00"},
-    {"a kind of 258", 2, "12 00 02 01 01 00 " SET "00 00 02 00"},
-    {"a length of 4", 3, "04 00 02 00"},
-    {"a length of 5", 3, "05 00 02 00 00"},
-    {"1,025 blocks", 4, "12 00 02 00 01 04 " SET "00 00 02 00"},
-    {"65,535 blocks", 4, "06 00 02 00 FF FF"},
-    {"a block fewer than its bytes", 5, "12 00 02 00 00 00 " SET "00 00 02 00"},
-    {"a block more than its bytes", 5, "12 00 02 00 02 00 " SET "00 00 02 00"},
-    {"a byte too many", 5, "13 00 02 00 01 00 " SET "00 00 02 00 00"},
-    {"a byte too few", 5, "11 00 02 00 01 00 " SET "00 00 02"},
-    {"l above u", 7, "12 00 02 00 01 00 " SET "03 00 02 00"},
-    {"l above u in the high byte", 7, "12 00 02 00 01 00 " SET "00 01 02 00"},
-    {"l above u in the last block", 7, "1E 00 02 00 02 00 " SET "00 00 02 00 " SET "01 00 00 00"},
-    {"u of 1,025", 8, "12 00 02 00 01 00 " SET "00 00 01 04"},
-    {"uppers that sum to 1,025", 8, "1E 00 02 00 02 00 " SET "00 00 00 04 " SET "00 00 01 00"},
-    {"uppers that sum to 65,536", 8, "1E 00 02 00 02 00 " SET "00 00 FF FF " SET "00 00 01 00"},
-    /* two faults: the first check decides */
-    {"length field and kind", 1, "13 00 01 00 01 00 " SET "00 00 02 00"},
-    {"kind and length", 2, "04 00 01 00"},
-    {"blocks and length", 4, "13 00 02 00 01 04 " SET "00 00 02 00 00"},
-    {"length and bounds", 5, "12 00 02 00 02 00 " SET "03 00 02 00"},
-    {"a sum in the first block, bounds in the last", 7, "1E 00 02 00 02 00 " SET "00 00 01 04 " SET "01 00 00 00"},
-};
-
 /* ---- try */
-
-/* 01's books. A: 0 by letter 0 to 1, 1 by 1 to 2, 2 by 2 to 1; 1 accepts. B: 0 by 0 or 1 to 1, 1 by 2 to 2; 2 accepts. C: one
-   accepting state, loops on 0 and 1. */
-#define BOOK_A "18 00 01 00 03 03 00 02 00 00 00 00 00 00 00 01 FF FF FF 02 FF FF FF 01"
-#define BOOK_B "18 00 01 00 03 03 00 04 00 00 00 00 00 00 00 01 01 FF FF FF 02 FF FF FF"
-#define BOOK_C "11 00 01 00 01 02 00 01 00 00 00 00 00 00 00 00 00"
 
 static struct bytes book, code;
 
@@ -312,33 +182,7 @@ static void try_largest(void)
     try_long("one block 0-1024, no letter", most, most, 1, 0, 1);
 }
 
-/* ---- books that are refused */
-
-static const struct fault book_faults[] = {
-    {"no bytes", 1, ""},
-    {"three bytes", 1, "03 00 01"},
-    {"a length field of one less", 1, "10 00 01 00 01 02 00 01 00 00 00 00 00 00 00 00 00"},
-    {"a length field of one more", 1, "12 00 01 00 01 02 00 01 00 00 00 00 00 00 00 00 00"},
-    {"a kind of 2", 2, "11 00 02 00 01 02 00 01 00 00 00 00 00 00 00 00 00"},
-    {"a kind of 257", 2, "11 00 01 01 01 02 00 01 00 00 00 00 00 00 00 00 00"},
-    {"a length of 14", 3, "0E 00 01 00 01 02 00 01 00 00 00 00 00 00"},
-    {"no states", 4, "0F 00 01 00 00 02 00 00 00 00 00 00 00 00 00"},
-    {"64 states", 4, "11 00 01 00 40 02 00 01 00 00 00 00 00 00 00 00 00"},
-    {"no letters", 4, "0F 00 01 00 01 00 00 01 00 00 00 00 00 00 00"},
-    {"65 letters", 4, "11 00 01 00 01 41 00 01 00 00 00 00 00 00 00 00 00"},
-    {"a move too many", 5, "12 00 01 00 01 02 00 01 00 00 00 00 00 00 00 00 00 00"},
-    {"a move too few", 5, "10 00 01 00 01 02 00 01 00 00 00 00 00 00 00 00"},
-    {"a start that is no state", 6, "11 00 01 00 01 02 01 01 00 00 00 00 00 00 00 00 00"},
-    {"an accepting bit that is no state", 6, "11 00 01 00 01 02 00 02 00 00 00 00 00 00 00 00 00"},
-    {"accepting bit 63", 6, "11 00 01 00 01 02 00 01 00 00 00 00 00 00 80 00 00"},
-    {"a move that is no state", 6, "11 00 01 00 01 02 00 01 00 00 00 00 00 00 00 00 01"},
-    {"a move of 254", 6, "11 00 01 00 01 02 00 01 00 00 00 00 00 00 00 FE 00"},
-    /* two faults: the first check decides */
-    {"length field and kind", 1, "12 00 02 00 01 02 00 01 00 00 00 00 00 00 00 00 00"},
-    {"kind and length", 2, "04 00 02 00"},
-    {"states and length", 4, "12 00 01 00 00 02 00 01 00 00 00 00 00 00 00 00 00 00"},
-    {"length and start", 5, "12 00 01 00 01 02 01 01 00 00 00 00 00 00 00 00 00 00"},
-};
+/* ---- refusals */
 
 static const struct block block_0 = {1, 0, 2}, block_2 = {4, 0, 2};
 
@@ -352,16 +196,16 @@ static void good(void)
 
 static void refusals(void)
 {
-    for (size_t i = 0; i < sizeof mask_faults / sizeof mask_faults[0]; i++) {
+    for (const struct fault *f = mask_faults; f->name != NULL; f++) {
         good();
-        hex(&in, mask_faults[i].bytes);
-        tidy_refuses(mask_faults[i].name, mask_faults[i].refusal);
-        count("try", mask_faults[i].name, try_is(mask_faults[i].refusal, 0, 0));
+        hex(&in, f->bytes);
+        tidy_refuses(f->name, f->refusal);
+        count("try", f->name, try_is(f->refusal, 0, 0));
     }
-    for (size_t i = 0; i < sizeof book_faults / sizeof book_faults[0]; i++) {
+    for (const struct fault *f = book_faults; f->name != NULL; f++) {
         good();
-        hex(&book, book_faults[i].bytes);
-        count("try", book_faults[i].name, try_is(book_faults[i].refusal, 0, 0));
+        hex(&book, f->bytes);
+        count("try", f->name, try_is(f->refusal, 0, 0));
     }
 }
 
@@ -446,9 +290,8 @@ static void stacks(void)
     count("try", "stack under 3 kB", try < 3000);
 }
 
-int main(void)
+void test_tidy_try(void)
 {
-    lent_open();
     tidy_tables();
     try_tables();
     try_largest();
@@ -457,6 +300,4 @@ int main(void)
     try_refusals();
     null_slices();
     stacks();
-    printf("%d passed, %d failed\n", passed, failed);
-    return failed != 0;
 }

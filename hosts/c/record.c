@@ -1,0 +1,54 @@
+/* Records for tests: see record.h. */
+#include "record.h"
+
+#include <stdio.h>
+
+void add(struct bytes *to, uint64_t number, int width)
+{
+    for (int i = 0; i < width; i++) {
+        to->at[to->len++] = (uint8_t)(number >> (8 * i));
+    }
+}
+
+static void mask_head(struct bytes *to, unsigned blocks)
+{
+    to->len = 0;
+    add(to, 6 + 12 * blocks, 2);
+    add(to, 2, 2);
+    add(to, blocks, 2);
+}
+
+static void mask_block(struct bytes *to, struct block block)
+{
+    add(to, block.set, 8);
+    add(to, block.lower, 2);
+    add(to, block.upper, 2);
+}
+
+void mask_record(struct bytes *to, const struct block *blocks, unsigned count)
+{
+    mask_head(to, count);
+    for (unsigned i = 0; i < count; i++) {
+        mask_block(to, blocks[i]);
+    }
+}
+
+void mask_repeated(struct bytes *to, struct block even, struct block odd, unsigned count)
+{
+    mask_head(to, count);
+    for (unsigned i = 0; i < count; i++) {
+        mask_block(to, i % 2 == 0 ? even : odd);
+    }
+}
+
+void hex(struct bytes *to, const char *text)
+{
+    unsigned byte;
+    to->len = 0;
+    for (; sscanf(text, "%2x", &byte) == 1; text += 3) {
+        to->at[to->len++] = (uint8_t)byte;
+        if (text[2] == '\0') {
+            return;
+        }
+    }
+}

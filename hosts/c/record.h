@@ -1,0 +1,38 @@
+/*
+ * Records for tests: masks built from blocks, and any record from hex.
+ */
+#ifndef RECORD_H
+#define RECORD_H
+
+#include "lent.h"
+
+#include <stddef.h>
+#include <stdint.h>
+
+#define LETTER(c) (UINT64_C(1) << (c))
+
+/* A block: at least lower and at most upper letters of set. */
+struct block {
+    uint64_t set;
+    uint16_t lower, upper;
+};
+
+/* The bytes of a record. */
+struct bytes {
+    size_t len;
+    uint8_t at[LONGEST];
+};
+
+/* Adds a number, little-endian. */
+void add(struct bytes *to, uint64_t number, int width);
+
+/* A mask of these blocks. */
+void mask_record(struct bytes *to, const struct block *blocks, unsigned count);
+
+/* A mask of the same block, again and again, or of two by turns. */
+void mask_repeated(struct bytes *to, struct block even, struct block odd, unsigned count);
+
+/* The bytes of a text in hex: two digits each, single blanks between them. */
+void hex(struct bytes *to, const char *text);
+
+#endif

@@ -1,0 +1,519 @@
+/* Tries the C entries of narrow and place: see test.h. */
+#include "books.h"
+#include "faults.h"
+#include "fekhvina.h"
+#include "lent.h"
+#include "record.h"
+#include "stack.h"
+#include "test.h"
+
+#include <stdio.h>
+#include <string.h>
+
+enum { NONE = 1, ALL, ONE, SOME };
+
+/* ---- heights, and the largest book */
+
+#define PLUS LETTER(0)
+#define MINUS LETTER(1)
+#define SIGNS (PLUS | MINUS)
+#define DIGIT(d) LETTER((d) + 2)
+#define DIGITS UINT64_C(0xFFC)
+#define UP_TO_1 (DIGIT(0) | DIGIT(1))
+#define UP_TO_2 (UP_TO_1 | DIGIT(2))
+
+/* The largest book: q by letter q to q + 1, but 62 by letter 63 to 0; start 0 and state 62 accept. */
+static void largest_book(struct bytes *to)
+{
+    enum { STATES = 63, LETTERS = 64 };
+    to->len = 0;
+    add(to, 15 + STATES * LETTERS, 2);
+    add(to, 1, 2);
+    add(to, STATES, 1);
+    add(to, LETTERS, 1);
+    add(to, 0, 1);
+    add(to, LETTER(0) | LETTER(62), 8);
+    for (unsigned q = 0; q < STATES; q++) {
+        for (unsigned c = 0; c < LETTERS; c++) {
+            add(to, q < 62 && c == q ? q + 1 : q == 62 && c == 63 ? 0 : 255, 1);
+        }
+    }
+}
+
+/* ---- narrow */
+
+static struct bytes book, in, answer;
+
+typedef uint32_t narrow_entry(const uint8_t *, size_t, const uint8_t *, size_t, uint8_t *, size_t);
+
+/* Whether an entry says so of `book` and `in`, and writes this much of `answer` and no more. */
+static int entry_is(narrow_entry *entry, uint32_t expected, size_t out_len, size_t written)
+{
+    const uint8_t *b = lent_copy(BOOK, book.at, book.len), *m = lent_copy(MASK, in.at, in.len);
+    uint32_t got = entry(b, book.len, m, in.len, lent_out(out_len), out_len);
+    return got == expected && lent_out_is(out_len, answer.at, written);
+}
+
+/* Whether the three entries do, with an answer buffer of this length. */
+static int narrow_is(size_t out_len, uint32_t refusal, uint32_t verdict, size_t written)
+{
+    return entry_is(fekhvina_narrow_refusal, refusal, out_len, written)
+        && entry_is(fekhvina_narrow_verdict, verdict, out_len, written)
+        && entry_is(fekhvina_narrow_bytes, (uint32_t)written, out_len, written);
+}
+
+static int refused_is(size_t out_len, uint32_t refusal)
+{
+    return narrow_is(out_len, refusal, 0, 0);
+}
+
+/* `book` and `in` have no legal code: with no buffer, one too short for any record, and one that would do. */
+static void narrows_to_none(const char *name)
+{
+    count("narrow", name, narrow_is(0, 0, NONE, 0) && narrow_is(5, 0, NONE, 0) && narrow_is(20000, 0, NONE, 0));
+}
+
+/* The narrowed mask of `book` and `in` is in `answer`: buffers of the needed size, of one byte more, of many more, of one less,
+   and of none. Where `again` is not 0, narrowing the answer gives that verdict and the answer itself. */
+static void narrows(const char *name, uint32_t verdict, uint32_t again)
+{
+    size_t need = answer.len;
+    int holds = narrow_is(need, 0, verdict, need) && narrow_is(need + 1, 0, verdict, need)
+        && narrow_is(need + 1000, 0, verdict, need) && refused_is(need - 1, 10) && refused_is(0, 10);
+    if (again != 0) {
+        in.len = need;
+        memcpy(in.at, answer.at, need);
+        holds = holds && narrow_is(need, 0, again, need);
+    }
+    count("narrow", name, holds);
+}
+
+struct narrow_case {
+    const char *name;
+    const char *book;
+    unsigned count;
+    struct block mask[5];
+    uint32_t verdict;
+    unsigned answer_count;
+    struct block answer[5];
+    uint32_t again; /* the verdict on the answer, which then stays as it is; 0 where there is none, or it narrows on */
+};
+
+static const struct narrow_case narrow_cases[] = {
+    /* 01's trials; the last is with the refusals */
+    {"A, {0,1,2} 0-2", BOOK_A, 1, {{7, 0, 2}}, SOME, 1, {{7, 1, 2}}, 0},
+    {"A, {0,1,2} 1-1: the dead state counts", BOOK_A, 1, {{7, 1, 1}}, ONE, 1, {{1, 1, 1}}, ALL},
+    {"B, {0,1,2} 2-2: + and - stay", BOOK_B, 1, {{7, 2, 2}}, SOME, 2, {{3, 1, 1}, {4, 1, 1}}, ALL},
+    {"B, {0,1} 1-1, {2} 1-1", BOOK_B, 2, {{3, 1, 1}, {4, 1, 1}}, ALL, 2, {{3, 1, 1}, {4, 1, 1}}, ALL},
+    {"B, {1} 1-1, {0,2} 1-1", BOOK_B, 2, {{2, 1, 1}, {5, 1, 1}}, ONE, 2, {{2, 1, 1}, {4, 1, 1}}, ALL},
+    {"B, {2} 1-3", BOOK_B, 1, {{4, 1, 3}}, NONE, 0, {{0, 0, 0}}, 0},
+    {"B, no blocks", BOOK_B, 0, {{0, 0, 0}}, NONE, 0, {{0, 0, 0}}, 0},
+    {"C, no blocks", BOOK_C, 0, {{0, 0, 0}}, ALL, 0, {{0, 0, 0}}, ALL},
+    {"C, {} 1-1: no code is not all codes", BOOK_C, 1, {{0, 1, 1}}, NONE, 0, {{0, 0, 0}}, 0},
+    {"C, {0} 1-2, {0} 0-3", BOOK_C, 2, {{1, 1, 2}, {1, 0, 3}}, ALL, 1, {{1, 1, 5}}, ALL},
+    {"C, {0} 0-1024", BOOK_C, 1, {{1, 0, 1024}}, ALL, 1, {{1, 0, 1024}}, ALL},
+    /* narrowing the first of them on and on */
+    {"A, {0,1,2} 1-2", BOOK_A, 1, {{7, 1, 2}}, SOME, 2, {{1, 1, 1}, {4, 0, 1}}, 0},
+    {"A, {0} 1-1, {2} 0-1", BOOK_A, 2, {{1, 1, 1}, {4, 0, 1}}, ONE, 1, {{1, 1, 1}}, ALL},
+    /* mandatory places */
+    {"a second block is narrowed", BOOK_B, 2, {{3, 1, 1}, {7, 1, 1}}, SOME, 2, {{3, 1, 1}, {4, 1, 1}}, ALL},
+    {"three places of a block", BOOK_A, 1, {{7, 3, 3}}, ONE, 3, {{1, 1, 1}, {2, 1, 1}, {4, 1, 1}}, ALL},
+    {"three places and an optional part", BOOK_A, 1, {{7, 3, 5}}, SOME, 4, {{1, 1, 1}, {2, 1, 1}, {4, 1, 1}, {6, 0, 2}}, SOME},
+    {"places and optional part are joined", BOOK_C, 1, {{1, 2, 5}}, ALL, 1, {{1, 2, 5}}, ALL},
+    {"a place without letters", BOOK_C, 2, {{1, 1, 1}, {0, 1, 1}}, NONE, 0, {{0, 0, 0}}, 0},
+    {"the dead state stays over a block", BOOK_A, 2, {{3, 1, 1}, {4, 0, 0}}, ONE, 1, {{1, 1, 1}}, ALL},
+    {"the dead state comes from the last state alone", GAP, 1, {{3, 2, 2}}, SOME, 2, {{1, 1, 1}, {3, 1, 1}}, ALL},
+    {"the states kept repeat, the states before do not", LOOP, 1, {{3, 3, 3}}, ONE, 2, {{1, 1, 1}, {2, 2, 2}}, ALL},
+    {"the states before repeat, the states kept do not", FORK, 1, {{3, 4, 4}}, ONE, 3, {{2, 2, 2}, {1, 1, 1}, {2, 1, 1}}, ALL},
+    /* optional parts */
+    {"the dead state comes from the last state alone", GAP, 1, {{3, 0, 2}}, SOME, 1, {{3, 0, 2}}, SOME},
+    {"lower bounds rise", BOOK_B, 2, {{3, 0, 2}, {4, 0, 2}}, SOME, 2, {{3, 1, 2}, {4, 1, 2}}, 0},
+    {"what no code uses goes", BOOK_B, 2, {{3, 1, 2}, {4, 1, 2}}, SOME, 2, {{3, 1, 1}, {4, 1, 1}}, ALL},
+    {"greedy: {0,1} 0-3, {1}, {2} has 0 1 2", BOOK_A, 3, {{3, 0, 3}, {2, 1, 1}, {4, 1, 1}}, SOME, 3, {{1, 1, 3}, {2, 1, 1}, {4, 1, 1}}, 0},
+    {"greedy, narrowed on", BOOK_A, 3, {{1, 1, 3}, {2, 1, 1}, {4, 1, 1}}, ONE, 3, {{1, 1, 1}, {2, 1, 1}, {4, 1, 1}}, ALL},
+    {"a letter with b(q) + 1 = u - l stays", BOOK_A, 2, {{3, 0, 2}, {7, 0, 2}}, SOME, 2, {{3, 0, 2}, {7, 0, 2}}, SOME},
+    {"a letter with b(q) + 1 = u - l + 1 goes", BOOK_A, 2, {{3, 0, 2}, {7, 0, 1}}, SOME, 2, {{3, 0, 2}, {5, 0, 1}}, SOME},
+    {"a lower bound that is the upper", RING, 1, {{1, 1, 5}}, ONE, 1, {{1, 5, 5}}, ALL},
+    {"b passes only states of R", RING, 1, {{1, 0, 3}}, ONE, 0, {{0, 0, 0}}, ALL},
+    {"one letter, but l < u", RING, 1, {{1, 0, 4}}, SOME, 1, {{1, 0, 4}}, SOME},
+    {"0 and 0 1 2, but 0 1 too", BOOK_A, 3, {{1, 1, 1}, {2, 0, 1}, {4, 0, 1}}, SOME, 3, {{1, 1, 1}, {2, 0, 1}, {4, 0, 1}}, SOME},
+    {"an optional part that no code uses", BOOK_A, 2, {{1, 1, 1}, {1, 0, 1}}, ONE, 1, {{1, 1, 1}}, ALL},
+    /* the normal form and the verdict */
+    {"joining comes after dropping", BOOK_C, 3, {{1, 0, 1}, {2, 0, 0}, {1, 0, 1}}, ALL, 1, {{1, 0, 2}}, ALL},
+    {"joining comes after dropping, an empty set", BOOK_C, 3, {{1, 1, 1}, {0, 0, 3}, {1, 1, 1}}, ALL, 1, {{1, 2, 2}}, ALL},
+    {"{} 0-5 has the empty code", BOOK_C, 1, {{0, 0, 5}}, ALL, 0, {{0, 0, 0}}, ALL},
+    {"all comes before one", BOOK_C, 1, {{1, 1, 1}}, ALL, 1, {{1, 1, 1}}, ALL},
+    {"A from state 1", "18 00 01 00 03 03 01 02 00 00 00 00 00 00 00 01 FF FF FF 02 FF FF FF 01", 1, {{6, 2, 2}}, ONE, 2, {{2, 1, 1}, {4, 1, 1}}, ALL},
+    {"C without an accepting state", "11 00 01 00 01 02 00 00 00 00 00 00 00 00 00 00 00", 1, {{1, 0, 2}}, NONE, 0, {{0, 0, 0}}, 0},
+    /* the height field: the minus sign stays where a height below zero is legal */
+    {"heights", HEIGHTS, 2, {{SIGNS, 1, 1}, {DIGITS, 4, 4}}, SOME, 3, {{SIGNS, 1, 1}, {UP_TO_1, 1, 1}, {DIGITS, 3, 3}}, SOME},
+    {"heights below zero", HEIGHTS, 2, {{MINUS, 1, 1}, {DIGITS, 4, 4}}, SOME, 4, {{MINUS, 1, 1}, {DIGIT(0), 1, 1}, {UP_TO_2, 1, 1}, {DIGITS, 2, 2}}, SOME},
+    {"heights of 1,000 and more", HEIGHTS, 3, {{SIGNS, 1, 1}, {DIGIT(1), 1, 1}, {DIGITS, 3, 3}}, SOME, 4, {{PLUS, 1, 1}, {DIGIT(1), 1, 1}, {UP_TO_2, 1, 1}, {DIGITS, 2, 2}}, SOME},
+    {"a height half filled in", HEIGHTS, 2, {{SIGNS, 0, 1}, {DIGITS, 0, 4}}, SOME, 2, {{SIGNS, 1, 1}, {DIGITS, 4, 4}}, 0},
+    {"+0250 and -0250", HEIGHTS, 5, {{SIGNS, 1, 1}, {DIGIT(0), 1, 1}, {DIGIT(2), 1, 1}, {DIGIT(5), 1, 1}, {DIGIT(0), 1, 1}},
+        ALL, 5, {{SIGNS, 1, 1}, {DIGIT(0), 1, 1}, {DIGIT(2), 1, 1}, {DIGIT(5), 1, 1}, {DIGIT(0), 1, 1}}, ALL},
+    {"+0251 and not -0251", HEIGHTS, 5, {{SIGNS, 1, 1}, {DIGIT(0), 1, 1}, {DIGIT(2), 1, 1}, {DIGIT(5), 1, 1}, {DIGIT(1), 1, 1}},
+        ONE, 5, {{PLUS, 1, 1}, {DIGIT(0), 1, 1}, {DIGIT(2), 1, 1}, {DIGIT(5), 1, 1}, {DIGIT(1), 1, 1}}, ALL},
+    {"+0000 and not -0000", HEIGHTS, 2, {{SIGNS, 1, 1}, {DIGIT(0), 4, 4}}, ONE, 2, {{PLUS, 1, 1}, {DIGIT(0), 4, 4}}, ALL},
+    {"the last digit is open", HEIGHTS, 3, {{SIGNS, 1, 1}, {DIGIT(0), 3, 3}, {DIGITS, 1, 1}}, SOME, 3, {{SIGNS, 1, 1}, {DIGIT(0), 3, 3}, {DIGITS, 1, 1}}, SOME},
+    {"no height", HEIGHTS, 2, {{MINUS, 1, 1}, {DIGITS & ~DIGIT(0), 4, 4}}, NONE, 0, {{0, 0, 0}}, 0},
+};
+
+static void narrow_tables(void)
+{
+    for (size_t i = 0; i < sizeof narrow_cases / sizeof narrow_cases[0]; i++) {
+        const struct narrow_case *c = &narrow_cases[i];
+        hex(&book, c->book);
+        mask_record(&in, c->mask, c->count);
+        mask_record(&answer, c->answer, c->answer_count);
+        if (c->verdict == NONE) {
+            narrows_to_none(c->name);
+        } else {
+            narrows(c->name, c->verdict, c->again);
+        }
+    }
+}
+
+/* The longest masks and answers, and the largest book. */
+static void narrow_largest(void)
+{
+    struct block none = {1, 0, 0}, once = {1, 1, 1}, other = {2, 1, 1}, both = {3, 1, 1};
+    struct block maybe = {1, 0, 1}, other_maybe = {2, 0, 1}, exact = {3, 1024, 1024}, odd = {3, 1023, 1023};
+    struct block most = {3, 0, 1024}, zeros = {1, 1024, 1024}, up_to = {1, 0, 1024}, from_one[] = {{3, 1, 1024}, {1, 1, 1}, {3, 1, 1023}};
+
+    hex(&book, BOOK_C);
+    mask_repeated(&in, once, other, 1024);
+    mask_repeated(&answer, once, other, 1024);
+    narrows("1,024 blocks, neighbours differ, all stay", ALL, ALL);
+    mask_repeated(&in, once, once, 1024);
+    mask_record(&answer, &zeros, 1);
+    narrows("1,024 equal blocks 1-1", ALL, ALL);
+    mask_repeated(&in, maybe, maybe, 1024);
+    mask_record(&answer, &up_to, 1);
+    narrows("1,024 equal blocks 0-1", ALL, ALL);
+    mask_repeated(&in, none, none, 1024);
+    mask_record(&answer, NULL, 0);
+    narrows("1,024 blocks with u = 0", ALL, ALL);
+    mask_record(&in, &exact, 1);
+    mask_record(&answer, &exact, 1);
+    narrows("1,024 places, all stay", ALL, ALL);
+
+    hex(&book, BOOK_B);
+    mask_repeated(&in, none, none, 1024);
+    narrows_to_none("1,024 blocks with u = 0, the empty code not legal");
+
+    hex(&book, TURNS);
+    mask_repeated(&answer, once, other, 1024);
+    mask_repeated(&in, both, both, 1024);
+    narrows("1,024 blocks 1-1 to 1,024 blocks", ONE, ALL);
+    mask_record(&in, &exact, 1);
+    narrows("one block 1024-1024 to 1,024 blocks", ONE, ALL);
+    mask_record(&in, &odd, 1);
+    narrows_to_none("one block 1023-1023");
+    mask_record(&in, &most, 1);
+    mask_record(&answer, &most, 1);
+    narrows("one block 0-1024", SOME, SOME);
+    mask_record(&in, from_one, 1);
+    mask_record(&answer, from_one + 1, 2);
+    narrows("one block 1-1024", SOME, 0);
+    mask_repeated(&in, maybe, other_maybe, 1024);
+    mask_repeated(&answer, maybe, other_maybe, 1024);
+    narrows("1,024 blocks 0-1, neighbours differ", SOME, SOME);
+
+    struct block all = {UINT64_MAX, 63, 63}, fewer = {UINT64_MAX, 62, 63}, any = {UINT64_MAX, 0, 1024};
+    struct block round[63], used = {~LETTER(62), 0, 1024};
+    for (unsigned i = 0; i < 63; i++) {
+        struct block letter = {LETTER(i < 62 ? i : 63), 1, 1};
+        round[i] = letter;
+    }
+    largest_book(&book);
+    mask_record(&in, &all, 1);
+    mask_record(&answer, round, 63);
+    narrows("63 states and 64 letters, round once", ONE, ALL);
+    round[62].lower = 0;
+    mask_record(&in, &fewer, 1);
+    mask_record(&answer, round, 63);
+    narrows("63 states and 64 letters, round or all but", SOME, ALL);
+    mask_record(&in, &any, 1);
+    mask_record(&answer, &used, 1);
+    narrows("63 states and 64 letters, 0-1024", SOME, SOME);
+}
+
+/* ---- place */
+
+/* Whether the four entries say so of `book`, `in`, a block and a place. */
+static int place_is(uint32_t block, uint32_t place, uint32_t refusal, struct block entry)
+{
+    const uint8_t *b = lent_copy(BOOK, book.at, book.len), *m = lent_copy(MASK, in.at, in.len);
+    return fekhvina_place_refusal(b, book.len, m, in.len, block, place) == refusal
+        && fekhvina_place_set(b, book.len, m, in.len, block, place) == entry.set
+        && fekhvina_place_lower(b, book.len, m, in.len, block, place) == entry.lower
+        && fekhvina_place_upper(b, book.len, m, in.len, block, place) == entry.upper;
+}
+
+static const struct block nothing = {0, 0, 0};
+
+static int lacks(uint32_t block, uint32_t place)
+{
+    return place_is(block, place, 11, nothing);
+}
+
+struct place_case {
+    const char *name;
+    const char *book;
+    unsigned count;
+    struct block mask[3];
+    struct block list[8]; /* block by block, its places 1 to l and then its optional part; all zero for none */
+};
+
+static const struct place_case place_cases[] = {
+    {"A, {0,1,2} 0-2", BOOK_A, 1, {{7, 0, 2}}, {{7, 1, 2}}},
+    {"A, {0,1,2} 1-1", BOOK_A, 1, {{7, 1, 1}}, {{1, 1, 1}, {0, 0, 0}}},
+    {"A, {0,1,2} 1-2", BOOK_A, 1, {{7, 1, 2}}, {{1, 1, 1}, {4, 0, 1}}},
+    {"A, {0,1,2} 3-5", BOOK_A, 1, {{7, 3, 5}}, {{1, 1, 1}, {2, 1, 1}, {4, 1, 1}, {6, 0, 2}}},
+    {"A, {0,1} 0-3, {1} 1-1, {2} 1-1", BOOK_A, 3, {{3, 0, 3}, {2, 1, 1}, {4, 1, 1}}, {{1, 1, 3}, {2, 1, 1}, {0, 0, 0}, {4, 1, 1}, {0, 0, 0}}},
+    {"A, {0,1} 0-2, {0,1,2} 0-1", BOOK_A, 2, {{3, 0, 2}, {7, 0, 1}}, {{3, 0, 2}, {5, 0, 1}}},
+    {"B, {0,1,2} 2-2", BOOK_B, 1, {{7, 2, 2}}, {{3, 1, 1}, {4, 1, 1}, {0, 0, 0}}},
+    {"B, {1} 1-1, {0,2} 1-1", BOOK_B, 2, {{2, 1, 1}, {5, 1, 1}}, {{2, 1, 1}, {0, 0, 0}, {4, 1, 1}, {0, 0, 0}}},
+    {"B, {0,1} 0-2, {2} 0-2", BOOK_B, 2, {{3, 0, 2}, {4, 0, 2}}, {{3, 1, 2}, {4, 1, 2}}},
+    {"B, {2} 1-3: none", BOOK_B, 1, {{4, 1, 3}}, {{0, 0, 0}}},
+    {"C, {} 1-1: none", BOOK_C, 1, {{0, 1, 1}}, {{0, 0, 0}}},
+    {"C, {0} 2-3, {} 1-1: none", BOOK_C, 2, {{1, 2, 3}, {0, 1, 1}}, {{0, 0, 0}}},
+    {"C, {} 0-5", BOOK_C, 1, {{0, 0, 5}}, {{0, 0, 5}}},
+    {"C, {0} 1-2, {0} 0-3: nothing is joined", BOOK_C, 2, {{1, 1, 2}, {1, 0, 3}}, {{1, 1, 1}, {1, 0, 1}, {1, 0, 3}}},
+    {"C, {0} 0-1, {1} 0-0, {0} 0-1: nothing is dropped", BOOK_C, 3, {{1, 0, 1}, {2, 0, 0}, {1, 0, 1}}, {{1, 0, 1}, {0, 0, 0}, {1, 0, 1}}},
+    {"C, no blocks: no place", BOOK_C, 0, {{0, 0, 0}}, {{0, 0, 0}}},
+    {"B, no blocks: no place", BOOK_B, 0, {{0, 0, 0}}, {{0, 0, 0}}},
+    {"ring, {0} 1-5", RING, 1, {{1, 1, 5}}, {{1, 1, 1}, {1, 4, 4}}},
+    {"ring, {0} 0-3", RING, 1, {{1, 0, 3}}, {{0, 0, 3}}},
+    {"heights", HEIGHTS, 2, {{SIGNS, 1, 1}, {DIGITS, 4, 4}},
+        {{SIGNS, 1, 1}, {0, 0, 0}, {UP_TO_1, 1, 1}, {DIGITS, 1, 1}, {DIGITS, 1, 1}, {DIGITS, 1, 1}, {0, 0, 0}}},
+    {"heights below zero", HEIGHTS, 2, {{MINUS, 1, 1}, {DIGITS, 4, 4}},
+        {{MINUS, 1, 1}, {0, 0, 0}, {DIGIT(0), 1, 1}, {UP_TO_2, 1, 1}, {DIGITS, 1, 1}, {DIGITS, 1, 1}, {0, 0, 0}}},
+};
+
+/* Every place of every block, and what is no place: also where only the low 16 bits of a number would name one. */
+static void place_tables(void)
+{
+    for (size_t i = 0; i < sizeof place_cases / sizeof place_cases[0]; i++) {
+        const struct place_case *c = &place_cases[i];
+        hex(&book, c->book);
+        mask_record(&in, c->mask, c->count);
+        const struct block *entry = c->list;
+        int holds = 1;
+        int refused = lacks(0, 0) && lacks(0, 1) && lacks(c->count + 1, 0) && lacks(c->count + 1, 1) && lacks(65536, 0)
+            && lacks(65537, 0) && lacks(UINT32_MAX, 0) && lacks(UINT32_MAX, UINT32_MAX);
+        for (uint32_t block = 1; block <= c->count; block++) {
+            uint32_t lower = c->mask[block - 1].lower;
+            for (uint32_t place = 1; place <= lower; place++) {
+                holds = holds && place_is(block, place, 0, *entry++);
+            }
+            holds = holds && place_is(block, 0, 0, *entry++);
+            refused = refused && lacks(block, lower + 1) && lacks(block, 65536) && lacks(block, 65536 + lower)
+                && lacks(block, UINT32_MAX);
+        }
+        count("place", c->name, holds);
+        count("place, 11", c->name, refused);
+    }
+}
+
+/* The longest masks. */
+static void place_largest(void)
+{
+    struct block both = {3, 1, 1}, exact = {3, 1024, 1024}, most = {3, 0, 1024}, none = {1, 0, 0};
+    struct block zero = {1, 1, 1}, one = {2, 1, 1};
+    int holds = 1;
+    hex(&book, TURNS);
+    mask_repeated(&in, both, both, 1024);
+    for (uint32_t i = 1; i <= 1024; i++) {
+        holds = holds && place_is(i, 1, 0, i % 2 == 1 ? zero : one) && place_is(i, 0, 0, nothing) && lacks(i, 2);
+    }
+    count("place", "1,024 blocks 1-1", holds && lacks(1025, 1));
+    holds = 1;
+    mask_record(&in, &exact, 1);
+    for (uint32_t j = 1; j <= 1024; j++) {
+        holds = holds && place_is(1, j, 0, j % 2 == 1 ? zero : one);
+    }
+    count("place", "one block 1024-1024", holds && place_is(1, 0, 0, nothing) && lacks(1, 1025));
+    mask_record(&in, &most, 1);
+    count("place", "one block 0-1024", place_is(1, 0, 0, most) && lacks(1, 1) && lacks(1, 1024));
+    mask_repeated(&in, none, none, 1024);
+    count("place", "1,024 blocks with u = 0", place_is(1, 0, 0, nothing) && place_is(1024, 0, 0, nothing) && lacks(1025, 0));
+}
+
+/* Masks of every size. Book FORK has one code of each length: the last letter is 1, back from it 0 and 1 take turns to the
+   second, and the first is the second again; that of one letter is 0. */
+static void every_size(void)
+{
+    static struct block list[1024];
+    struct block both = {3, 1, 1}, zero = {1, 0, 1}, one = {2, 0, 1};
+    int in_one = 1, in_many = 1, optional = 1;
+    for (unsigned size = 1; size <= 1024; size++) {
+        struct block exact = {3, (uint16_t)size, (uint16_t)size};
+        unsigned joined = 0;
+        for (unsigned j = 1; j <= size; j++) {
+            struct block letter = {(size - j) % 2 == (j > 1) ? 1 : 2, 1, 1};
+            list[j - 1] = letter;
+        }
+        struct block first = list[0], last = list[size - 1];
+        if (size > 1) {
+            joined = 1;
+            list[1].lower = list[1].upper = 2;
+        }
+        hex(&book, FORK);
+        mask_record(&answer, list + joined, size - joined);
+        mask_record(&in, &exact, 1);
+        in_one = in_one && narrow_is(answer.len, 0, ONE, answer.len) && refused_is(answer.len - 1, 10) && place_is(1, 1, 0, first)
+            && place_is(1, size, 0, last) && place_is(1, 0, 0, nothing) && lacks(1, size + 1);
+        mask_repeated(&in, both, both, size);
+        in_many = in_many && narrow_is(answer.len, 0, ONE, answer.len) && refused_is(answer.len - 1, 10) && place_is(1, 1, 0, first)
+            && place_is(size, 1, 0, last) && place_is(size, 0, 0, nothing) && lacks(size + 1, 0);
+        hex(&book, BOOK_C);
+        mask_repeated(&answer, zero, one, size);
+        mask_repeated(&in, zero, one, size);
+        optional = optional && narrow_is(answer.len, 0, ALL, answer.len) && place_is(size, 0, 0, size % 2 == 1 ? zero : one);
+    }
+    count("narrow and place", "one block l-l, of every size", in_one);
+    count("narrow and place", "blocks 1-1, of every number", in_many);
+    count("narrow and place", "blocks 0-1, of every number", optional);
+}
+
+/* ---- refusals */
+
+static const struct block block_0 = {1, 0, 2}, block_2 = {4, 0, 2};
+
+/* A good book and mask, of which a case spoils some; its block 1 has a place 0 and no place 1. */
+static void good(void)
+{
+    hex(&book, BOOK_C);
+    mask_record(&in, &block_0, 1);
+}
+
+/* Narrow with no buffer and with one that would do; place with a place that is there, and with what would be 11. */
+static void refuses(const char *name, uint32_t refusal)
+{
+    count("narrow", name, refused_is(0, refusal) && refused_is(20000, refusal));
+    count("place", name, place_is(1, 0, refusal, nothing) && place_is(1, 1, refusal, nothing) && place_is(0, 0, refusal, nothing));
+}
+
+static void bad_records(void)
+{
+    for (const struct fault *f = mask_faults; f->name != NULL; f++) {
+        good();
+        hex(&in, f->bytes);
+        refuses(f->name, f->refusal);
+    }
+    for (const struct fault *f = book_faults; f->name != NULL; f++) {
+        good();
+        hex(&book, f->bytes);
+        refuses(f->name, f->refusal);
+        hex(&in, "04 00 01 00");
+        refuses("a bad mask besides: the book's fault decides", f->refusal);
+    }
+    good();
+    memset(in.at + in.len, 0, 65536);
+    in.len += 65536;
+    refuses("65,554 bytes and a length field of 18", 1);
+    good();
+    memset(book.at + book.len, 0, 65536);
+    book.len += 65536;
+    refuses("65,553 bytes and a length field of 17", 1);
+}
+
+struct mask_case {
+    const char *name;
+    uint32_t refusal;
+    unsigned count;
+    struct block mask[2];
+};
+
+/* With book C, which has letters 0 and 1. */
+static const struct mask_case mask_cases[] = {
+    {"01's trial: {0} 0-1024, {1} 0-1", 8, 2, {{1, 0, 1024}, {2, 0, 1}}},
+    {"a set with letter m", 9, 1, {{4, 0, 2}}},
+    {"a set with letter 63", 9, 1, {{LETTER(63) | 1, 0, 2}}},
+    {"a set with letter m in the last block", 9, 2, {{1, 0, 2}, {5, 1, 1}}},
+    {"a set with letter m in a block with u = 0", 9, 2, {{4, 0, 0}, {1, 0, 1}}},
+    {"a set with letter m, no legal code", 9, 2, {{4, 0, 2}, {0, 1, 1}}},
+    {"letter m and bounds", 7, 1, {{4, 3, 2}}},
+    {"letter m in the first block, bounds in the last", 7, 2, {{4, 0, 2}, {1, 1, 0}}},
+    {"letter m and a sum", 8, 1, {{4, 0, 1025}}},
+    {"letter m in the first block, a sum over both", 8, 2, {{4, 0, 1024}, {1, 0, 1}}},
+};
+
+static void order(void)
+{
+    for (size_t i = 0; i < sizeof mask_cases / sizeof mask_cases[0]; i++) {
+        hex(&book, BOOK_C);
+        mask_record(&in, mask_cases[i].mask, mask_cases[i].count);
+        refuses(mask_cases[i].name, mask_cases[i].refusal);
+    }
+    hex(&book, "11 00 01 00 01 02 01 01 00 00 00 00 00 00 00 00 00");
+    mask_record(&in, &block_2, 1);
+    refuses("a start that is no state and a set with letter m", 6);
+}
+
+/* Empty slices may be null pointers; none needs no buffer. */
+static void null_slices(void)
+{
+    good();
+    const uint8_t *b = book.at, *m = in.at;
+    count("narrow", "three null slices", fekhvina_narrow_refusal(NULL, 0, NULL, 0, NULL, 0) == 1
+        && fekhvina_narrow_verdict(NULL, 0, NULL, 0, NULL, 0) == 0 && fekhvina_narrow_bytes(NULL, 0, NULL, 0, NULL, 0) == 0);
+    count("narrow", "a null mask", fekhvina_narrow_refusal(b, book.len, NULL, 0, NULL, 0) == 1
+        && fekhvina_narrow_verdict(b, book.len, NULL, 0, NULL, 0) == 0);
+    count("narrow", "a null buffer", fekhvina_narrow_refusal(b, book.len, m, in.len, NULL, 0) == 10
+        && fekhvina_narrow_verdict(b, book.len, m, in.len, NULL, 0) == 0 && fekhvina_narrow_bytes(b, book.len, m, in.len, NULL, 0) == 0);
+    count("place", "two null slices", fekhvina_place_refusal(NULL, 0, NULL, 0, 1, 0) == 1 && fekhvina_place_set(NULL, 0, NULL, 0, 1, 0) == 0);
+    count("place", "a null mask", fekhvina_place_refusal(b, book.len, NULL, 0, 1, 0) == 1 && fekhvina_place_upper(b, book.len, NULL, 0, 1, 0) == 0);
+    hex(&book, BOOK_B);
+    count("narrow", "none with a null buffer", fekhvina_narrow_refusal(b, book.len, m, in.len, NULL, 0) == 0
+        && fekhvina_narrow_verdict(b, book.len, m, in.len, NULL, 0) == NONE && fekhvina_narrow_bytes(b, book.len, m, in.len, NULL, 0) == 0);
+}
+
+/* ---- stack */
+
+static void one_narrow(void)
+{
+    fekhvina_narrow_verdict(book.at, book.len, in.at, in.len, answer.at, sizeof answer.at);
+}
+
+static void one_place(void)
+{
+    fekhvina_place_set(book.at, book.len, in.at, in.len, 1, 1);
+}
+
+/* The stack of narrow and place for a book and mask, in `book` and `in`. */
+static void stack_of(const char *name)
+{
+    size_t narrow = stack_used(one_narrow), place = stack_used(one_place);
+    printf("stack, %s: narrow %zu bytes, place %zu bytes\n", name, narrow, place);
+    count("narrow, stack under 80 kB", name, narrow < 80000);
+    count("place, stack under 80 kB", name, place < 80000);
+}
+
+static void stacks(void)
+{
+    struct block height[] = {{SIGNS, 1, 1}, {DIGITS, 4, 4}}, exact = {3, 1024, 1024}, once = {3, 1, 1};
+    hex(&book, HEIGHTS);
+    mask_record(&in, height, 2);
+    stack_of("a height field");
+    hex(&book, TURNS);
+    mask_record(&in, &exact, 1);
+    stack_of("one block 1024-1024");
+    mask_repeated(&in, once, once, 1024);
+    stack_of("1,024 blocks 1-1");
+}
+
+void test_narrow_place(void)
+{
+    narrow_tables();
+    narrow_largest();
+    place_tables();
+    place_largest();
+    every_size();
+    bad_records();
+    order();
+    null_slices();
+    stacks();
+}
