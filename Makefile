@@ -4,7 +4,7 @@ HOSTS = target/hosts
 
 .PHONY: run check lib hosts test
 
-# The example host: a mask tidied, a code tried.
+# The example host: a mask tidied and narrowed, a place asked for, a code tried.
 run: $(HOSTS)/example
 	@$(HOSTS)/example
 

@@ -35,7 +35,7 @@ extern "C" {
  * and is never refused by 10: no buffer is needed to find it. An answer may be longer than the mask; an answer buffer of
  * 6 + 12 * 1024 bytes always suffices.
  * Cost: linear in the bytes of the records, and a few looks at each move of the book for each block and each mandatory place.
- * Stack: under 64 kB.
+ * Stack: under 43 kB.
  */
 
 /* The refusal number, 0 for none. */
@@ -73,7 +73,7 @@ uint32_t fekhvina_tidy_bytes(const uint8_t *mask, size_t mask_len, uint8_t *out,
  * Refusals, in order: 1 to 6 (the book), 1, 2, 3, 4, 5, 7, 8 (the mask), 9 (a set with a letter that the book lacks), 11 (a
  * block number of 0 or above the number of blocks, or a place above the block's lower bound).
  * Touches: nothing.
- * Cost: as narrow. Stack: under 64 kB.
+ * Cost: as narrow. Stack: under 43 kB.
  */
 
 /* The refusal number, 0 for none. */

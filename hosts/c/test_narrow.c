@@ -488,8 +488,8 @@ static void stack_of(const char *name)
 {
     size_t narrow = stack_used(one_narrow), place = stack_used(one_place);
     printf("stack, %s: narrow %zu bytes, place %zu bytes\n", name, narrow, place);
-    count("narrow, stack under 80 kB", name, narrow < 80000);
-    count("place, stack under 80 kB", name, place < 80000);
+    count("narrow, stack under 43 kB", name, narrow < 43000);
+    count("place, stack under 43 kB", name, place < 43000);
 }
 
 static void stacks(void)

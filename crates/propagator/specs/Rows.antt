@@ -2,13 +2,16 @@
 use Prim.Native.Nat.{ℕ, zero, suc, _+_, _≤_, _<_}
 use mathlib.Core.Path.{_≡_}
 use mathlib.Core.List.{List, [], _∷_}
-use lib.ListN.{getD, take}
+use lib.Dec.{T}
+use lib.ListN.{length, getD, take}
 use Rattle.model.specs.declared.Block.{Block}
 use Rattle.model.specs.Set.{Member}
 use Rattle.model.specs.DashedString.{blockAt}
-use Rattle.model.specs.Automaton.{Table}
-use Rattle.model.specs.Passes.{Segment, segments, forward, backward, pruned, final}
-use Rattle.records.specs.Written.{numbered, blocksBetween}
+use Rattle.model.specs.Automaton.{Table, Dfa}
+use Rattle.model.specs.Passes.{Segment, segments, forward, backward, pruned, final, finals, narrowedList}
+use Rattle.model.specs.Verdict.{someLegal}
+use Rattle.records.specs.Written.{numbered, blocksOf, blocksBetween, Enough}
+use Rattle.propagator.specs.declared.Passed.{Passed}
 use Rattle.propagator.specs.Moves.{exactly}
 
 -- the states kept before the row, where E are those kept behind it
@@ -61,3 +64,19 @@ pub record Writes (bases lowers uppers : List ℕ) (first end : ℕ) (ys : List 
   pub made : blocksBetween bases' lowers' uppers' first end ≡ ys
   pub before : (k : ℕ) → k < first → numbered bases' lowers' uppers' k ≡ numbered bases lowers uppers k
   pub behind : (k : ℕ) → end ≤ k → numbered bases' lowers' uppers' k ≡ numbered bases lowers uppers k
+
+-- room for the passes over the first n blocks of three slices: an entry for each place and each optional part; Q0 of each block;
+-- Q1 to Ql of each; what is known
+abbrev pub Scratch : List ℕ → List ℕ → List ℕ → ℕ → List ℕ → List ℕ → List ℕ → Type 0
+Scratch bases lowers uppers n firsts sets known =
+    Enough bases lowers uppers (lowerSum (blocksOf bases lowers uppers n) + n)
+    × (lowerSum (blocksOf bases lowers uppers n) ≤ length sets)
+    × (n ≤ length firsts)
+    × (length known ≡ 66)
+
+-- what both passes over the first n blocks of three slices leave there: the states possible behind the last block, how many
+-- entries there are, and, where some code is legal, the entries themselves
+pub record Leaves (d : Dfa) (a b c : List ℕ) (n : ℕ) (a' b' c' : List ℕ) (passed : Passed) : Type 0 where
+  pub states : passed .states ≡ finals d (blocksOf a b c n)
+  pub entries : passed .entries ≡ lowerSum (blocksOf a b c n) + n
+  pub list : T (someLegal d (blocksOf a b c n)) → blocksOf a' b' c' (passed .entries) ≡ narrowedList d (blocksOf a b c n)

@@ -17,7 +17,7 @@ use model::Block;
 // What stands behind the last block: the states possible there, and the sum of the lower bounds.
 pub(crate) struct Behind {
     pub states: u64,
-    pub lowers: usize,
+    pub sum: usize,
 }
 
 // Makes the elements from `at` up to `end` the same set.
@@ -135,7 +135,7 @@ pub(crate) fn go_ahead(
     ensures { λ r. ⌜ (
         let t = table shape (now (moves .entry)) in
         let xs = blocksOf (now (bases .entry)) (now (lowers .entry)) (now (uppers .entry)) count in
-        (r .states ≡ entering t start xs count) × (r .lowers ≡ lowerSum xs)
+        (r .states ≡ entering t start xs count) × (r .sum ≡ lowerSum xs)
         × Stored t start xs count (now (firsts .exit)) (now (sets .exit))) ⌝ }
 {
     let mut states = start;
@@ -148,5 +148,5 @@ pub(crate) fn go_ahead(
         at += block.lower as usize;
         i += 1;
     }
-    Behind { states, lowers: at }
+    Behind { states, sum: at }
 }

@@ -1,14 +1,11 @@
 // The passes of document 01 on a book and the blocks of a mask: forward through the blocks, and back. All room is lent.
 ghost use mathlib.Core.Path.{_≡_};
 ghost use Prim.Native.Nat.{_+_, _*_, _≤_, _<_};
-ghost use lib.Dec.{T};
 ghost use lib.ListN.{length};
 ghost use Rattle.model.specs.Size.{Room};
-ghost use Rattle.model.specs.Passes.{finals, narrowedList};
-ghost use Rattle.model.specs.Verdict.{someLegal};
 ghost use Rattle.records.specs.Book.{automatonOf};
-ghost use Rattle.records.specs.Written.{blocksOf, Enough};
-ghost use Rattle.propagator.specs.Rows.{lowerSum};
+ghost use Rattle.records.specs.Written.{blocksOf};
+ghost use Rattle.propagator.specs.Rows.{Scratch, Leaves};
 
 mod ahead;
 mod back;
@@ -17,6 +14,9 @@ mod moving;
 mod optional;
 mod places;
 
+use ahead::Behind;
+use ahead::go_ahead;
+use back::go_back;
 use records::Book;
 
 // How many states and letters a book has.
@@ -46,16 +46,9 @@ pub fn pass(
 ) -> Passed
     requires { ⌜ (book .states < 64) × (book .start < book .states) × (book .states * book .letters ≤ length (now moves)) ⌝ }
     requires { ⌜ Room (book .letters) (blocksOf (now bases) (now lowers) (now uppers) count) ⌝ }
-    requires { ⌜ (
-        let lowest = lowerSum (blocksOf (now bases) (now lowers) (now uppers) count) in
-        Enough (now bases) (now lowers) (now uppers) (lowest + count) × (lowest ≤ length (now sets))) ⌝ }
-    requires { ⌜ (count ≤ length (now firsts)) × (length (now known) ≡ 66) ⌝ }
-    ensures { λ r. ⌜ (
-        let b = automatonOf book (now (moves .entry)) in
-        let xs = blocksOf (now (bases .entry)) (now (lowers .entry)) (now (uppers .entry)) count in
-        (r .states ≡ finals b xs) × (r .entries ≡ lowerSum xs + count)
-        × (T (someLegal b xs)
-        → blocksOf (now (bases .exit)) (now (lowers .exit)) (now (uppers .exit)) (r .entries) ≡ narrowedList b xs)) ⌝ }
+    requires { ⌜ Scratch (now bases) (now lowers) (now uppers) count (now firsts) (now sets) (now known) ⌝ }
+    ensures { λ r. ⌜ Leaves (automatonOf book (now (moves .entry))) (now (bases .entry)) (now (lowers .entry)) (now (uppers .entry)) count
+        (now (bases .exit)) (now (lowers .exit)) (now (uppers .exit)) r ⌝ }
 {
     let shape = Shape {
         states: book.states,
@@ -63,7 +56,7 @@ pub fn pass(
     };
     known[64] = 0;
     let start = bitset::add(0, book.start);
-    let behind = ahead::go_ahead(
+    let Behind { states, sum } = go_ahead(
         shape,
         moves,
         bases,
@@ -75,15 +68,12 @@ pub fn pass(
         sets,
         known,
     );
-    let passed = Passed {
-        states: behind.states,
-        entries: behind.lowers + count,
-    };
-    let end = bitset::intersection(behind.states, book.accepting);
+    let entries = sum + count;
+    let end = bitset::intersection(states, book.accepting);
     if end == 0 {
-        return passed;
+        return Passed { states, entries };
     }
-    back::go_back(
+    go_back(
         shape,
         moves,
         bases,
@@ -93,9 +83,9 @@ pub fn pass(
         start,
         firsts,
         sets,
-        behind.states,
+        states,
         end,
-        behind.lowers,
+        sum,
     );
-    passed
+    Passed { states, entries }
 }

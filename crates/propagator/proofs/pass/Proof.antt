@@ -2,11 +2,28 @@
 use native.Mathlib.Omega.{arith}
 use borrow.Author.Needs.{needs}
 use lib.ListN.{length-set}
+use Rattle.model.specs.Automaton.{Dfa}
 use Rattle.records.specs.Book.{automatonOf}
 use Rattle.records.proofs.Stores.{length-values}
 use Rattle.propagator.proofs.Whole.{known-none, pass-finals, pass-inside, pass-none, pass-list}
 use Rattle.propagator.proofs.pass.Statement.{statement}
 use Rattle.propagator.proofs.pass.Tie as tie
+
+-- where the function starts, before the pass forward
+abbrev start : tie.After-go-ahead-arg6 → tie.Start
+start c = c .before .before .before .before .before .before .before .before .before .before .before .before .before .before
+
+-- where the start is made a set
+abbrev added : tie.After-go-ahead-arg6 → tie.After-add
+added c = c .before .before .before .before .before .before
+
+-- where the pass forward is done, before its states are tested
+abbrev ahead : tie.After-slice-known9 → tie.After-go-ahead
+ahead c = c .before .before .before .before .before .before
+
+-- the automaton
+abbrev automaton : tie.Start → Dfa
+automaton c = automatonOf (c .args .book) (c .args .moves .now)
 
 slice-write-known : tie.Need-slice-write-known
 slice-write-known c = search needs
@@ -16,14 +33,13 @@ add-requires c κs = search needs
 
 go-ahead-requires : tie.Need-go-ahead-requires
 go-ahead-requires c κs =
-    let start = c .before .before .before .before .before .before .before .before .before .before .before .before .before .before in
-    let pre = start .pre in (
-      (record { small = pre .0 .0; enough = pre .0 .2 }, omega (arith, pre .1 .1 .0 .0)),
-      (pre .1 .0, ((pre .1 .1 .1 .0, pre .1 .1 .0 .1), known-none _ (start .args .known .now) (pre .1 .1 .1 .1))),
-    )
+    let (book, (room, (enough, sets, firsts, known))) = start c .pre in
+    ((record { small = book .0; enough = book .2 }, omega (arith, enough)), (room, ((firsts, sets), known-none _ (start c .args .known .now) known)))
 
-add-t28 : tie.Need-add-t28
-add-t28 c = omega (arith, c .before .before .before .before .before .before .before .go-ahead .ensures .1, c .before .before .before .before .before .before .before .before .before .before .before .before .before .before .before .before .before .before .before .before .before .before .pre .1 .1 .0 .0, c .before .before .before .before .before .before .before .before .before .before .before .before .before .before .before .before .before .before .before .before .before .before .good .1 .1 .0)
+add-entries : tie.Need-add-entries
+add-entries c =
+    let start = start (ahead c .before) in
+    omega (arith, ahead c .go-ahead .ensures .1, start .pre .1 .1 .0, start .good .1 .1 .0)
 
 intersection-requires : tie.Need-intersection-requires
 intersection-requires c κs = search needs
@@ -44,36 +60,33 @@ same-length-5 : tie.Need-same-length-5
 same-length-5 c = search needs
 
 same-length-6 : tie.Need-same-length-6
-same-length-6 c = omega (arith, length-set (c .before .before .before .before .before .before .before .before .before .before .before .before .before .before .before .before .before .before .before .before .before .before .before .before .args .known .now) 64 0)
+same-length-6 c = omega (arith, length-set (start (ahead (c .before .before) .before) .args .known .now) 64 0)
 
 returns : tie.Need-returns
 returns c =
-    let start = c .before .before .before .before .before .before .before .before .before .before .before .before .before .before .before .before .before .before .before .before .before .before .before .before in
-    let ahead = c .before .before .before .before .before .before .before .before .before .go-ahead .ensures in
-    let d = automatonOf (start .args .book) (start .args .moves .now) in (
-      pass-finals d _ _ _ _ (c .before .before .before .before .before .before .before .before .before .before .before .before .before .before .before .before .add .ensures) (ahead .0) (length-values _ _),
-      omega (arith, ahead .1),
-      λ t. absurd (pass-none d _ _ _ _ (c .before .before .before .before .before .before .before .before .before .before .before .before .before .before .before .before .add .ensures) (ahead .0) (length-values _ _) _ (c .before .intersection .ensures) (omega arith) t),
-    )
+    let ahead = ahead (c .before .before) in
+    let first = added (ahead .before) .add .ensures in
+    let (states, sum, _) = ahead .go-ahead .ensures in
+    let d = automaton (start (ahead .before)) in
+    record {
+      states = pass-finals d _ _ _ _ first states (length-values _ _);
+      entries = omega (arith, sum);
+      list = λ t. absurd (pass-none d _ _ _ _ first states (length-values _ _) _ (c .before .intersection .ensures) (omega arith) t);
+    }
 
 go-back-requires : tie.Need-go-back-requires
 go-back-requires c κs =
-    let start = c .before .before .before .before .before .before .before .before .before .before .before .before .before .before .before .before .before .before .before .before .before .before .before .before .before .before .before .before .before in
-    let pre = start .pre in
-    let ahead = c .before .before .before .before .before .before .before .before .before .before .before .before .before .before .go-ahead .ensures in
-    let d = automatonOf (start .args .book) (start .args .moves .now) in (
-      (record { small = pre .0 .0; enough = pre .0 .2 }, omega (arith, pre .1 .1 .0 .0, ahead .1)),
-      (
-        pre .1 .0,
-        (
-          (
-            omega (arith, pre .1 .1 .1 .0),
-            omega (arith, pre .1 .1 .0 .1, ahead .1),
-            pass-inside d _ _ _ _ (c .before .before .before .before .before .before .before .before .before .before .before .before .before .before .before .before .before .before .before .before .before .add .ensures) (ahead .0) (length-values _ _) _ (c .before .before .before .before .before .before .intersection .ensures),
-          ),
-          (ahead .1, ahead .0, ahead .2),
-        ),
-      ),
+    let tested = c .before .before .before .before .before .before in
+    let sets-kept = tested .before .before .before .before in
+    let firsts-kept = sets-kept .before .before in
+    let ahead = firsts-kept .before in
+    let start = start (ahead .before) in
+    let (book, (room, (enough, sets, firsts, _))) = start .pre in
+    let first = added (ahead .before) .add .ensures in
+    let (states, sum, stored) = ahead .go-ahead .ensures in
+    let inside = pass-inside (automaton start) _ _ _ _ first states (length-values _ _) _ (tested .intersection .ensures) in (
+      (record { small = book .0; enough = book .2 }, omega (arith, enough, sum)),
+      (room, ((omega (arith, firsts, firsts-kept .firsts .given), omega (arith, sets, sum, sets-kept .sets .given), inside), (sum, states, stored))),
     )
 
 same-length-7 : tie.Need-same-length-7
@@ -92,17 +105,23 @@ same-length-11 : tie.Need-same-length-11
 same-length-11 c = search needs
 
 same-length-12 : tie.Need-same-length-12
-same-length-12 c = omega (arith, length-set (c .before .before .before .before .before .before .before .before .before .before .before .before .before .before .before .before .before .before .before .before .before .before .before .before .before .before .before .before .before .before .before .before .before .before .before .before .args .known .now) 64 0)
+same-length-12 c =
+    let tested = c .before .before .before .before .before .before .before .before .before .before .before .before .before in
+    omega (arith, length-set (start (ahead (tested .before) .before) .args .known .now) 64 0)
 
 returns-2 : tie.Need-returns-2
 returns-2 c =
-    let start = c .before .before .before .before .before .before .before .before .before .before .before .before .before .before .before .before .before .before .before .before .before .before .before .before .before .before .before .before .before .before .before .before .before .before .before .before in
-    let ahead = c .before .before .before .before .before .before .before .before .before .before .before .before .before .before .before .before .before .before .before .before .before .go-ahead .ensures in
-    let d = automatonOf (start .args .book) (start .args .moves .now) in (
-      pass-finals d _ _ _ _ (c .before .before .before .before .before .before .before .before .before .before .before .before .before .before .before .before .before .before .before .before .before .before .before .before .before .before .before .before .add .ensures) (ahead .0) (length-values _ _),
-      omega (arith, ahead .1),
-      λ t. pass-list d _ _ _ _ (c .before .before .before .before .before .before .before .before .before .before .before .before .before .before .before .before .before .before .before .before .before .before .before .before .before .before .before .before .add .ensures) (ahead .0) (length-values _ _) _ (c .before .before .before .before .before .before .before .before .before .before .before .before .before .intersection .ensures) _ (c .before .before .before .before .before .before .go-back .ensures),
-    )
+    let back = c .before .before .before .before .before .before in
+    let tested = back .before .before .before .before .before .before .before in
+    let ahead = ahead (tested .before) in
+    let first = added (ahead .before) .add .ensures in
+    let (states, sum, _) = ahead .go-ahead .ensures in
+    let d = automaton (start (ahead .before)) in
+    record {
+      states = pass-finals d _ _ _ _ first states (length-values _ _);
+      entries = omega (arith, sum);
+      list = λ t. pass-list d _ _ _ _ first states (length-values _ _) _ (tested .intersection .ensures) _ (back .go-back .ensures);
+    }
 
 pub pass-spec : {M : Type 1} → statement M
 pass-spec =
@@ -111,7 +130,7 @@ pass-spec =
     slice-write-known
     add-requires
     go-ahead-requires
-    add-t28
+    add-entries
     intersection-requires
     same-length
     same-length-2

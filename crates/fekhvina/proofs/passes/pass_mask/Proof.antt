@@ -40,7 +40,7 @@ pass-requires c κs =
     let few = letters-few _ _ _ (start .pre .0) _ copied in
     let room = blocks-room _ _ _ (start .pre .0) _ copied (bytes known) in
     let kept = c .before .before .before .before .before .before .before .before .uppers .given in
-    (book-moves _ _ _ (start .pre .0), (room, ((omega (arith, few, kept), omega (arith, few)), (omega arith, omega arith))))
+    (book-moves _ _ _ (start .pre .0), (room, (omega (arith, few, kept), omega (arith, few), omega arith, omega arith)))
 
 same-length : tie.Need-same-length
 same-length c = search needs
@@ -66,10 +66,10 @@ returns c =
     let read = passed .before .before .before .before .before .before .before .before .before .before .before .before .before .before in
     let start = read .before .before .before .before .before .before .before .before .before .before .before .before in
     let copied = read .read-blocks .ensures in
-    let (states, size, list) = passed .pass .ensures in (
-      rw copied at size,
-      omega (arith, size, letters-few _ _ _ (start .pre .0) _ copied),
-      passes-found _ _ _ (start .pre .0) _ copied _ _ states list,
+    let left = passed .pass .ensures in (
+      rw copied at (left .entries),
+      omega (arith, left .entries, letters-few _ _ _ (start .pre .0) _ copied),
+      passes-found _ _ _ (start .pre .0) _ copied _ _ (left .states) (left .list),
     )
 
 pub pass-mask-spec : {M : Type 1} → statement M
