@@ -129,7 +129,7 @@ has-cleared s t i =
     (digits (λ a b. eqb (differ a (min a b)) 1 ≡ (eqb a 1 && not (eqb b 1))) refl refl refl refl x y)
 
 -- what the code makes of two sets is their difference
-pub difference-test : (s t : ℕ) → s < 2 ^ 64 → t < 2 ^ 64 → bitXor s (bitAnd s t) ≡ difference s t
+difference-test : (s t : ℕ) → s < 2 ^ 64 → t < 2 ^ 64 → bitXor s (bitAnd s t) ≡ difference s t
 unfolding difference
 difference-test s t a b =
     same-members (bitXor s (bitAnd s t)) (difference s t) (xor-lt 64 s (bitAnd s t) a (and-lt 64 s t a b)) (members-bytes s (λ j. not (has t j))) (λ i. (
@@ -140,6 +140,10 @@ difference-test s t a b =
           let (m, n) = in-members s (λ j. not (has t j)) .0 h in
           member (m .small) (rw has-cleared (T-and (has s i) (not (has t i)) .1 (m .there, n))),
     ))
+
+-- the same, of what is in both, which is given by an equation
+pub difference-is : (s t r : ℕ) → s < 2 ^ 64 → t < 2 ^ 64 → r ≡ both s t → bitXor s r ≡ difference s t
+difference-is s t r a b e = rw e (difference-test s t a b)
 
 -- without a member it is a smaller number
 pub difference-less : (s i : ℕ) → s < 2 ^ 64 → Member i s → difference s (2 ^ i) < s

@@ -38,7 +38,7 @@ pub fn intersection(a: u64, b: u64) -> u64
 pub fn difference(a: u64, b: u64) -> u64
     ensures { λ r. ⌜ r ≡ spec.difference a b ⌝ }
 {
-    a ^ (a & b)
+    a ^ intersection(a, b)
 }
 
 // A member of `set`, the least.
