@@ -8,11 +8,11 @@ use native.Mathlib.Nat.{one-mul, pow-suc, le-div-iff-mul-le, lt-of-not-le, mod-s
 use native.Mathlib.Omega.{arith}
 use borrow.Author.Tests.{eq-eqb, eqb-true, eqb-false}
 use lib.Arith.{bin-ind}
-use lib.Bits.{bitAnd, bitXor, differ, and-step, xor-step, and-self, and-mask, and-shr, xor-shr, and-lt, xor-lt, xor-add-and}
+use lib.Bits.{bitAnd, bitXor, differ, and-step, xor-step, and-self, and-mask, and-shr, xor-shr, and-lt, and-le-l, xor-lt, xor-add-and}
 use lib.Count.{trailingZeros, under}
 use lib.Dec.{T, T-not, eqb, leb, ltb, eqb→eq, eqb-refl, eqb·suc-zero, ltb→lt, leb→le, le→leb}
 use lib.Pow.{pow-pos, pow-mono, shr-shr}
-use Rattle.model.specs.Set.{has, Member, both, either, someFrom, oneMember}
+use Rattle.model.specs.Set.{has, Member, both, either, someMember, someFrom, oneMember}
 use Rattle.model.proofs.Set.{T-and, digits, has-half, some-below, member, in-none, in-one, one-in, in-both, in-either, in-members, members-bytes, some-member}
 use Rattle.bitset.specs.Difference.{difference}
 
@@ -82,6 +82,22 @@ pub in-add : (s i j : ℕ) → i < 64 → Member j (either s (2 ^ i)) ↔ (Membe
 in-add s i j h = (
   λ m. ⊎-elim inl (λ x. inr (in-one x)) (in-either s (2 ^ i) .0 m),
   λ m. in-either s (2 ^ i) .1 (⊎-elim inl (λ e. inr (rw e (one-in h))) m),
+)
+
+-- ---- sets that share members
+
+-- a test that fails exactly when P holds
+pub decided : {P : Type 0} (t : Bool) → P ↔ (¬ T t) → (P → t ≡ false) × (¬ P → t ≡ true)
+decided true h = (λ p. absurd (h .0 p tt), λ n. refl)
+decided false h = (λ p. refl, λ n. absurd (n (h .1 (λ t. t))))
+
+-- the sets share none exactly where no member of the one is in the other
+pub shared-test : (s t : ℕ) → s < 2 ^ 64 → ((both s t ≡ 0) → someMember s (has t) ≡ false) × (¬ (both s t ≡ 0) → someMember s (has t) ≡ true)
+shared-test s t small = decided (someMember s (has t)) (
+  λ e h. let (q, m, g) = some-member s (has t) .0 h in in-none (rw e at (in-both s t .1 (m, member (m .small) g))),
+  λ n.
+      same-members (both s t) 0 (omega (arith, and-le-l s t)) (omega arith)
+      (λ q. (λ m. let (x, y) = in-both s t .0 m in absurd (n (some-member s (has t) .1 (q, x, y .there))), λ m. absurd (in-none m))),
 )
 
 -- ---- the least member

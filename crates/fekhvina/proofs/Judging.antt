@@ -2,21 +2,20 @@
 -- Assumes nothing.
 use Prim.Native.Nat.{ℕ, suc, _+_, _-_, _^_, _≤_, _<_}
 use mathlib.Core.Path.{_≡_, refl, _∙_, sym}
-use mathlib.Core.Logic.{_↔_}
 use mathlib.Core.Bool.{Bool, true, false, not, _&&_}
 use mathlib.Core.List.{List}
 use native.Mathlib.Numerals.{add-one}
 use native.Mathlib.Omega.{arith}
 use borrow.Author.Tests.{eq-eqb, ne-eqb}
 use lib.Bits.{and-le-l}
-use lib.Dec.{T, T-not, not-T}
+use lib.Dec.{T-not, not-T}
 use lib.ListN.{getD}
 use Rattle.model.specs.declared.Verdict.the-variants.{All, One, Some}
 use Rattle.model.specs.Set.{has, both, someMember, oneMember}
 use Rattle.model.specs.Verdict.{single, every, say}
-use Rattle.model.proofs.Set.{member, in-none, in-both, some-member}
+use Rattle.model.proofs.Set.{member, in-both, some-member}
 use Rattle.model.proofs.Demand3.{stable}
-use Rattle.bitset.proofs.Laws.{same-members}
+use Rattle.bitset.proofs.Laws.{decided, same-members}
 use Rattle.records.specs.Written.{numbered, blocksBetween, Enough}
 use Rattle.normal_form.proofs.Steps.{between-cons}
 
@@ -60,22 +59,8 @@ module _ (b l u : List ℕ) (first end i : ℕ) (singling : Singling b l u first
 
 -- ---- legal codes and others
 
--- a test that fails exactly when P holds
-decided : {P : Type 0} (t : Bool) → P ↔ (¬ T t) → (P → t ≡ false) × (¬ P → t ≡ true)
-decided true h = (λ p. absurd (h .0 p tt), λ n. refl)
-decided false h = (λ p. refl, λ n. absurd (n (h .1 (λ t. t))))
-
 -- states s, of which those in a accept
 module _ (s a : ℕ) (small : s < 2 ^ 64) where
-  -- no state accepts exactly when the sets share none
-  pub legal-test : ((both s a ≡ 0) → someMember s (has a) ≡ false) × (¬ (both s a ≡ 0) → someMember s (has a) ≡ true)
-  legal-test = decided (someMember s (has a)) (
-    λ e t. let (q, m, g) = some-member s (has a) .0 t in in-none (rw e at (in-both s a .1 (m, member (m .small) g))),
-    λ n.
-        same-members (both s a) 0 (omega (arith, and-le-l s a)) (omega arith)
-        (λ q. (λ m. let (x, y) = in-both s a .0 m in absurd (n (some-member s (has a) .1 (q, x, y .there))), λ m. absurd (in-none m))),
-  )
-
   -- each accepts exactly when they share them all
   abbrev strays : Bool
   strays = someMember s (λ q. not (has a q))

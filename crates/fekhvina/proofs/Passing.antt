@@ -12,6 +12,7 @@ use Rattle.model.specs.Set.{both}
 use Rattle.model.specs.Passes.{finals, narrowedList}
 use Rattle.model.specs.Verdict.{someLegal}
 use Rattle.model.specs.Size.{uppers, Room}
+use Rattle.bitset.proofs.Laws.{shared-test}
 use Rattle.records.specs.Bytes.{Bytes}
 use Rattle.records.specs.Book.{bookHead, movesOf, automatonOf, bookOf}
 use Rattle.records.specs.Mask.{count, maskOf}
@@ -23,7 +24,6 @@ use Rattle.fekhvina.specs.declared.pair.Pair.{Pair}
 use Rattle.fekhvina.specs.declared.pair.PairOrRefusal.the-variants.{Accepted}
 use Rattle.fekhvina.specs.Pair.{readPair}
 use Rattle.fekhvina.specs.Passes.{Found}
-use Rattle.fekhvina.proofs.Judging.{legal-test}
 use Rattle.fekhvina.proofs.Pairs.{pair-accepted, pair-records, pair-mask, pair-room}
 
 -- a book and a mask that are accepted; the moves are lent from byte 15 on
@@ -75,4 +75,4 @@ module _ (bs ms : List ℕ) (p : Pair) (read : readPair bs ms ≡ Accepted p) wh
       → ((r ≡ 0) → someLegal (bookOf bs) (maskOf ms) ≡ false) × (¬ (r ≡ 0) → someLegal (bookOf bs) (maskOf ms) ≡ true)
   unfolding someLegal
   found-legal s ys small found r shared =
-      rw (shared, ← found .states, pair-accepted bs ms p read .1) (legal-test s (bookHead bs .accepting) small)
+      rw (shared, ← found .states, pair-accepted bs ms p read .1) (shared-test s (bookHead bs .accepting) small)

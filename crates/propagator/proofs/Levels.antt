@@ -10,10 +10,10 @@ use Rattle.model.specs.Set.{has, Member, both, either, someMember}
 use Rattle.model.specs.DashedString.{block}
 use Rattle.model.specs.Automaton.{Table}
 use Rattle.model.specs.Passes.{before, between, rounds, atMost, toEnd, first, fewest, optional, pruned, backward}
-use Rattle.model.proofs.Set.{member, in-none, in-both, in-either, some-member}
+use Rattle.model.proofs.Set.{in-both, in-either}
 use Rattle.model.proofs.Steps.{rounds-stay, in-before}
 use Rattle.bitset.specs.Difference.{difference}
-use Rattle.bitset.proofs.Laws.{same-test, same-members, least-in, in-difference}
+use Rattle.bitset.proofs.Laws.{same-members, shared-test, in-difference}
 use Rattle.propagator.specs.Moves.{leads}
 use Rattle.propagator.proofs.Gathering.{inside-or-not}
 use Rattle.propagator.proofs.Keeping.{before-bytes, Keeping, leads-exact, keeping-more, keeping-ends}
@@ -103,69 +103,55 @@ module _ (t : Table) (S R E : ℕ) where
 
 -- ---- the least b
 
--- sets of 8 bytes that share a number
-meets : (A B m : ℕ) → A < 2 ^ 64 → B < 2 ^ 64 → m ≡ both A B → ¬ (m ≡ 0) → someMember B (has A) ≡ true
-meets A B m a b e n =
-    let (x, y) = in-both A B .0 (least-in (both A B) (and-lt 64 A B a b) (omega arith)) in
-    same-test (someMember B (has A)) true (λ h. tt, λ h. some-member B (has A) .1 (_, y, x .there))
-
--- and sets that share none
-misses : (A B m : ℕ) → m ≡ both A B → m ≡ 0 → someMember B (has A) ≡ false
-misses A B m e n =
-    same-test (someMember B (has A)) false (
-      λ h. let (i, y, x) = some-member B (has A) .0 h in in-none (rw (← e, n) at (in-both A B .1 (member (y .small) x, y))),
-      λ h. absurd h,
-    )
-
 -- some state of Q is of level d
 abbrev near : Table → ℕ → ℕ → ℕ → ℕ → ℕ → Bool
 near t S R E Q d = someMember Q (has (toEnd t S R E d))
 
 -- no state of Q is below the level, whose number is height
-pub record Seeking (t : Table) (S R E Q w level height : ℕ) : Type 0 where
+pub record Searching (t : Table) (S R E Q w level height : ℕ) : Type 0 where
   pub bytes : level < 2 ^ 64
   pub within : height ≤ w
   pub same : level ≡ toEnd t S R E height
   pub least : fewest t S R E Q w ≡ first (w - height) height (near t S R E Q)
 
 -- no level is looked at yet
-pub seeking-starts : (t : Table) (S R E Q w : ℕ) → E < 2 ^ 64 → Seeking t S R E Q w E 0
+pub searching-starts : (t : Table) (S R E Q w : ℕ) → E < 2 ^ 64 → Searching t S R E Q w E 0
 unfolding rounds fewest
-seeking-starts t S R E Q w h =
+searching-starts t S R E Q w h =
     let all : w - 0 ≡ w = omega arith in
     record { bytes = h; within = omega arith; same = refl; least = rw all }
 
-module _ (t : Table) (S R E Q w level height : ℕ) (seeking : Seeking t S R E Q w level height) where
+module _ (t : Table) (S R E Q w level height : ℕ) (searching : Searching t S R E Q w level height) where
   -- a state of Q is of this level
-  pub seeking-met : (m : ℕ) → Q < 2 ^ 64 → height < w → m ≡ both level Q → ¬ (m ≡ 0) → height ≡ fewest t S R E Q w
+  pub searching-met : (m : ℕ) → Q < 2 ^ 64 → height < w → m ≡ both Q level → ¬ (m ≡ 0) → height ≡ fewest t S R E Q w
   unfolding first
-  seeking-met m b h e n =
+  searching-met m b h e n =
       let more : w - height ≡ suc (w - suc height) = omega arith in
-      let here : near t S R E Q height ≡ true = rw (seeking .same) at (meets level Q m (seeking .bytes) b e n) in
-      sym (rw (more, first, here) at (seeking .least))
+      let here : near t S R E Q height ≡ true = rw (searching .same) at (shared-test Q level b .1 (rw (← e) n)) in
+      sym (rw (more, first, here) at (searching .least))
 
   -- none is: one level more
-  pub seeking-more : (m next : ℕ) → height < w → m ≡ both level Q → m ≡ 0 → next ≡ either level (before t S R level)
-      → Seeking t S R E Q w next (height + 1)
+  pub searching-more : (m next : ℕ) → Q < 2 ^ 64 → height < w → m ≡ both Q level → m ≡ 0 → next ≡ either level (before t S R level)
+      → Searching t S R E Q w next (height + 1)
   unfolding first
-  seeking-more m next h e n f =
+  searching-more m next b h e n f =
       let more : w - height ≡ suc (w - suc height) = omega arith in
       let above : height + 1 ≡ suc height = omega arith in
-      let here : near t S R E Q height ≡ false = rw (seeking .same) at (misses level Q m e n) in
+      let here : near t S R E Q height ≡ false = rw (searching .same) at (shared-test Q level b .0 (sym e ∙ n)) in
       record {
-        bytes = rw f (or-lt 64 level (before t S R level) (seeking .bytes) (before-bytes t S R level));
+        bytes = rw f (or-lt 64 level (before t S R level) (searching .bytes) (before-bytes t S R level));
         within = omega arith;
-        same = rw above (level-next t S R E height level next (seeking .same) f);
-        least = rw above (rw (more, first, here) at (seeking .least));
+        same = rw above (level-next t S R E height level next (searching .same) f);
+        least = rw above (rw (more, first, here) at (searching .least));
       }
 
   -- none is below w
-  pub seeking-ends : w ≤ height → w ≡ fewest t S R E Q w
+  pub searching-ends : w ≤ height → w ≡ fewest t S R E Q w
   unfolding first
-  seeking-ends h =
+  searching-ends h =
       let none : w - height ≡ 0 = omega arith in
-      let last : height ≡ w = omega (arith, seeking .within) in
-      sym (rw (none, last) at (seeking .least))
+      let last : height ≡ w = omega (arith, searching .within) in
+      sym (rw (none, last) at (searching .least))
 
 -- ---- what an optional part becomes
 

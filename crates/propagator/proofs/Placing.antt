@@ -19,18 +19,12 @@ use Rattle.propagator.specs.declared.places.Kept.{Kept}
 use Rattle.propagator.specs.Moves.{exactly}
 use Rattle.propagator.specs.Rows.{keptTo, entriesTo, Places, setBefore, Writes}
 use Rattle.propagator.proofs.Keeping.{before-bytes}
+use Rattle.propagator.proofs.Rows.{set-before-is}
 
 -- the set before a place that is not the first is stored
 pub set-stored : (first : ℕ) (sets : List ℕ) (at j : ℕ) → ¬ (j ≡ 0) → getD sets (at + j - 1) 0 ≡ setBefore first sets at j
 set-stored first sets at zero n = absurd (n refl)
 set-stored first sets at (suc j) n = let same : at + suc j - 1 ≡ at + j = omega arith in rw same
-
--- and the sets stored are Qj
-set-exactly : (t : Table) (S first count : ℕ) (sets : List ℕ) (at : ℕ) → Places t S first count sets at
-    → (j : ℕ) → j ≤ count → setBefore first sets at j ≡ exactly t S first j
-unfolding exactly
-set-exactly t S first count sets at places zero h = refl
-set-exactly t S first count sets at places (suc j) h = places j h
 
 -- what one place between two sets becomes
 pub record Remembered (t : Table) (S from to : ℕ) (kept : Kept) : Type 0 where
@@ -120,7 +114,7 @@ module _ (t : Table) (S first count end : ℕ) (a b c : List ℕ) (entry : ℕ) 
         let ss = places S (count - suc i) in
         let more : count - i ≡ suc (count - suc i) = omega (arith, old .within) in
         let next : entry + suc i ≡ suc (entry + i) = omega arith in
-        let here : Q ≡ exactly t S first i = q ∙ set-exactly t S first count sets at stored i (omega (arith, old .within)) in
+        let here : Q ≡ exactly t S first i = q ∙ set-before-is t S first count sets at stored i (omega (arith, old .within)) in
         let done : Remembered t S (exactly t S first i) states kept = rw here at place in
         let x = block (kept .letters) 1 1 in
         let room : Enough a' b' c' (entry + count) = (omega (arith, old .bases), omega (arith, old .lowers), omega (arith, old .uppers)) in

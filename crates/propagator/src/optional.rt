@@ -68,7 +68,7 @@ fn fewest(
     let mut level = end;
     let mut height = 0;
     while height < width {
-        if bitset::intersection(level, from) != 0 {
+        if bitset::intersection(from, level) != 0 {
             return height;
         }
         level = raise(shape, moves, base, within, level);
