@@ -7,7 +7,7 @@ use Rattle.bitset.proofs.first_member.Statement.{statement}
 use Rattle.bitset.proofs.first_member.Tie as tie
 
 cast-result : tie.Need-cast-result
-cast-result c = fits-below tt (trailing-le 64 (c .args .set))
+cast-result c = fits-below tt (trailing-le 64 _)
 
 returns : tie.Need-returns
 returns c = least-in (c .args .set) (search needs) (search needs)
