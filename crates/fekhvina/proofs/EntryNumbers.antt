@@ -8,10 +8,10 @@ use lib.ListN.{length}
 use Rattle.model.specs.declared.Block.{Block}
 use Rattle.model.specs.DashedString.{blockAt}
 use Rattle.model.specs.Place.{begins, entryOf}
+use Rattle.model.specs.Size.{lowerSum}
 use Rattle.records.specs.Mask.{count, maskOf, maskRefusal}
 use Rattle.records.proofs.Offsets.{blocks-counted}
 use Rattle.records.proofs.WellFormed.{mask-record}
-use Rattle.propagator.specs.Rows.{lowerSum}
 use Rattle.propagator.proofs.Rows.{sum-uppers}
 
 -- the next block's entries begin behind the places and the optional part of this one

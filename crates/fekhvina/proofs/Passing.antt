@@ -11,14 +11,13 @@ use Rattle.model.specs.declared.Block.{Block}
 use Rattle.model.specs.Set.{both}
 use Rattle.model.specs.Passes.{finals, narrowedList}
 use Rattle.model.specs.Verdict.{someLegal}
-use Rattle.model.specs.Size.{uppers, Room}
+use Rattle.model.specs.Size.{uppers, Room, lowerSum}
 use Rattle.bitset.proofs.Laws.{shared-test}
 use Rattle.records.specs.Bytes.{Bytes}
 use Rattle.records.specs.Book.{bookHead, movesOf, automatonOf, bookOf}
 use Rattle.records.specs.Mask.{count, maskOf}
 use Rattle.records.proofs.Answers.{mask-holds}
 use Rattle.records.proofs.Over.{part-rest}
-use Rattle.propagator.specs.Rows.{lowerSum}
 use Rattle.propagator.proofs.Rows.{sum-uppers}
 use Rattle.fekhvina.specs.declared.pair.Pair.{Pair}
 use Rattle.fekhvina.specs.declared.pair.PairOrRefusal.the-variants.{Accepted}

@@ -17,6 +17,7 @@ use Rattle.model.specs.Passes.{narrowedList}
 use Rattle.model.specs.Verdict.{narrowedMask, single, every, say, someLegal, someIllegal, verdict}
 use Rattle.model.specs.Place.{entryOf, unlessNone, place}
 use Rattle.model.specs.Demand3.{Has, Puts}
+use Rattle.model.specs.Size.{lowerSum}
 use Rattle.model.proofs.Demand3.{demand-3}
 use Rattle.records.specs.Book.{bookOf}
 use Rattle.records.specs.Mask.{count, maskOf, maskRefusal}
@@ -24,7 +25,6 @@ use Rattle.records.specs.Written.{numbered, blocksOf}
 use Rattle.records.proofs.Checks.{on, off, neither}
 use Rattle.records.proofs.Offsets.{blocks-counted}
 use Rattle.records.proofs.WellFormed.{checked}
-use Rattle.propagator.specs.Rows.{lowerSum}
 use Rattle.propagator.proofs.Slices.{entry-at}
 use Rattle.fekhvina.specs.declared.pair.Pair.{Pair}
 use Rattle.fekhvina.specs.declared.pair.PairOrRefusal.{PairOrRefusal}

@@ -1,10 +1,10 @@
 // The passes on a book and a mask that are accepted. All room is lent.
 ghost use mathlib.Core.Path.{_≡_};
 ghost use Prim.Native.Nat.{_+_, _≤_};
+ghost use Rattle.model.specs.Size.{lowerSum};
 ghost use Rattle.records.specs.Book.{bookOf};
 ghost use Rattle.records.specs.Mask.{maskOf};
 ghost use Rattle.records.specs.Written.{blocksOf};
-ghost use Rattle.propagator.specs.Rows.{lowerSum};
 ghost use Rattle.fekhvina.specs.declared.pair.PairOrRefusal.the-variants.{Accepted};
 ghost use Rattle.fekhvina.specs.Pair.{readPair};
 ghost use Rattle.fekhvina.specs.Passes.{Lent, Found};

@@ -1,4 +1,4 @@
--- What lets a mask be written as a record and taken again: checks 4, 7, 8 and 9 of 01.
+-- Sums of bounds, and what lets a mask be written as a record and taken again: checks 4, 7, 8 and 9 of 01.
 use Prim.Native.Nat.{ℕ, _+_, _^_, _≤_, _<_}
 use mathlib.Core.List.{List, [], _∷_}
 use lib.ListN.{length}
@@ -10,6 +10,11 @@ use Rattle.model.specs.DashedString.{Each, Bounded}
 abbrev pub uppers : List Block → ℕ
 uppers [] = 0
 uppers (x ∷ xs) = x .upper + uppers xs
+
+-- the sum of the lower bounds
+unfoldable pub lowerSum : List Block → ℕ
+lowerSum [] = 0
+lowerSum (x ∷ xs) = x .lower + lowerSum xs
 
 -- l ≤ u, and the set is 8 bytes whose letters are all below m
 pub record WellFormed (m : ℕ) (x : Block) : Type 0 where

@@ -10,14 +10,14 @@ use lib.ListN.{length, getD, take, set, length-set}
 use lib.Seq.{getD-set-same, getD-set-other}
 use Rattle.model.specs.declared.Block.{Block}
 use Rattle.model.specs.DashedString.{blockAt}
-use Rattle.model.specs.Size.{WellFormed, Room}
+use Rattle.model.specs.Size.{WellFormed, Room, lowerSum}
 use Rattle.model.specs.Automaton.{Table}
 use Rattle.model.specs.Passes.{segmentsOf, atMost, final}
 use Rattle.records.specs.Written.{numbered, blocksOf}
 use Rattle.records.proofs.Stores.{length-values}
 use Rattle.propagator.specs.Moves.{exactly}
 use Rattle.propagator.specs.Known.{Known}
-use Rattle.propagator.specs.Rows.{Keeps, Places, Stored, lowerSum, entering}
+use Rattle.propagator.specs.Rows.{Keeps, Places, Stored, entering}
 use Rattle.propagator.proofs.Rows.{sum-next, sum-mono, sum-all, block-final, entering-first, entering-next}
 use Rattle.propagator.proofs.Slices.{each-at, entry-is}
 

@@ -9,7 +9,7 @@ use lib.ListN.{length, getD, take, drop, set, replicate, drop-of-length-le}
 use Rattle.model.specs.declared.Block.{Block}
 use Rattle.model.specs.DashedString.{blockAt}
 use Rattle.model.specs.Set.{both}
-use Rattle.model.specs.Size.{WellFormed, Room}
+use Rattle.model.specs.Size.{WellFormed, Room, lowerSum}
 use Rattle.model.specs.Automaton.{Table}
 use Rattle.model.specs.Passes.{mandatory, optional, segmentsOf, segments, atMost, backward, pruned, final}
 use Rattle.model.proofs.Set.{in-both}
@@ -17,7 +17,7 @@ use Rattle.records.specs.Written.{numbered, blocksOf, blocksBetween, Enough}
 use Rattle.records.proofs.Stores.{length-values}
 use Rattle.bitset.proofs.Laws.{same-members}
 use Rattle.propagator.specs.Moves.{exactly}
-use Rattle.propagator.specs.Rows.{keptTo, entriesTo, lowerSum, entering, Inside, Places, setBefore, Stored, Writes}
+use Rattle.propagator.specs.Rows.{keptTo, entriesTo, entering, Inside, Places, setBefore, Stored, Writes}
 use Rattle.propagator.proofs.Rows.{sum-next, sum-mono, sum-all, block-final, entering-first, entering-next, set-before-is, kept-inside, block-kept, block-entries, kept-next, entries-next}
 use Rattle.propagator.proofs.Slices.{each-at, entry-is, between-first, between-none, between-append, between-same, writes-behind}
 

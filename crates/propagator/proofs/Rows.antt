@@ -9,13 +9,13 @@ use lib.Seq.{take-suc, take-length, drop-cons}
 use Rattle.model.specs.declared.Block.{Block}
 use Rattle.model.specs.Set.{has, Member, both, someMember}
 use Rattle.model.specs.DashedString.{block, blockAt, Each, Bounded}
-use Rattle.model.specs.Size.{uppers, WellFormed, Room}
+use Rattle.model.specs.Size.{uppers, WellFormed, Room, lowerSum}
 use Rattle.model.specs.Automaton.{Table, Dfa, next}
 use Rattle.model.specs.Passes.{Segment, mandatory, optional, segmentsOf, segments, after, atMost, toEnd, forward, backward, before, pruned, final, kept, entries, finals, narrowedList}
 use Rattle.model.proofs.Set.{in-both, in-members}
 use Rattle.records.proofs.Checks.{each-map}
 use Rattle.propagator.specs.Moves.{exactly}
-use Rattle.propagator.specs.Rows.{keptTo, entriesTo, lowerSum, entering, Inside, Places, setBefore}
+use Rattle.propagator.specs.Rows.{keptTo, entriesTo, entering, Inside, Places, setBefore}
 
 -- ---- sums of lower bounds
 

@@ -10,6 +10,7 @@ use Rattle.model.specs.DashedString.{blockAt}
 use Rattle.model.specs.Automaton.{Table, Dfa}
 use Rattle.model.specs.Passes.{Segment, segments, forward, backward, pruned, final, finals, narrowedList}
 use Rattle.model.specs.Verdict.{someLegal}
+use Rattle.model.specs.Size.{lowerSum}
 use Rattle.records.specs.Written.{numbered, blocksOf, blocksBetween, Enough}
 use Rattle.propagator.specs.declared.Passed.{Passed}
 use Rattle.propagator.specs.Moves.{exactly}
@@ -23,11 +24,6 @@ keptTo t E Q (s ∷ ss) = backward t Q s (keptTo t E (forward t Q s) ss)
 unfoldable pub entriesTo : Table → ℕ → ℕ → List Segment → List Block
 entriesTo t E Q [] = []
 entriesTo t E Q (s ∷ ss) = let P = forward t Q s in pruned t Q s (keptTo t E P ss) ∷ entriesTo t E P ss
-
--- the sum of the lower bounds
-unfoldable pub lowerSum : List Block → ℕ
-lowerSum [] = 0
-lowerSum (x ∷ xs) = x .lower + lowerSum xs
 
 -- Q0 of block i, from 0: the states possible before it, from states of Q on
 unfoldable pub entering : Table → ℕ → List Block → ℕ → ℕ

@@ -2,13 +2,13 @@
 ghost use mathlib.Core.Path.{_≡_};
 ghost use Prim.Native.Nat.{_+_, _≤_};
 ghost use lib.ListN.{length, getD};
-ghost use Rattle.model.specs.Size.{Room};
+ghost use Rattle.model.specs.Size.{Room, lowerSum};
 ghost use Rattle.model.specs.Passes as passes;
 ghost use Rattle.model.specs.Passes.{segmentsOf, final};
 ghost use Rattle.records.specs.Written.{blocksOf, Enough};
 ghost use Rattle.propagator.specs.Moves.{Usable, Below, table, exactly};
 ghost use Rattle.propagator.specs.Known.{Known};
-ghost use Rattle.propagator.specs.Rows.{Keeps, Same, Places, Stored, lowerSum, entering};
+ghost use Rattle.propagator.specs.Rows.{Keeps, Same, Places, Stored, entering};
 use crate::Shape;
 use crate::known::step;
 use crate::known::turn_to;

@@ -2,11 +2,11 @@
 ghost use mathlib.Core.Path.{_≡_};
 ghost use Prim.Native.Nat.{_+_, _≤_, _<_};
 ghost use lib.ListN.{length};
-ghost use Rattle.model.specs.Size.{Room};
+ghost use Rattle.model.specs.Size.{Room, lowerSum};
 ghost use Rattle.model.specs.Passes.{segmentsOf, segments, final};
 ghost use Rattle.records.specs.Written.{blocksOf, Enough};
 ghost use Rattle.propagator.specs.Moves.{Usable, Below, table};
-ghost use Rattle.propagator.specs.Rows.{keptTo, entriesTo, entering, lowerSum, Inside, Places, Stored, Writes};
+ghost use Rattle.propagator.specs.Rows.{keptTo, entriesTo, entering, Inside, Places, Stored, Writes};
 use crate::Shape;
 use crate::optional::narrow_optional;
 use crate::places::narrow_places;
