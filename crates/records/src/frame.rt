@@ -12,7 +12,15 @@ pub(crate) fn unframed(bytes: &[u8]) -> bool
     if bytes.len() < 4 {
         return true;
     }
-    number::read(bytes, 0, 2) as usize != bytes.len()
+    length_field(bytes) != bytes.len()
+}
+
+// The length field of a record.
+pub fn length_field(bytes: &[u8]) -> usize
+    requires { ⌜ 2 ≤ length (now bytes) ⌝ }
+    ensures { λ r. ⌜ r ≡ spec.lengthField (now (bytes .entry)) ⌝ }
+{
+    number::read(bytes, 0, 2) as usize
 }
 
 // The kind of a record.

@@ -19,6 +19,7 @@ mod number;
 mod uppers;
 mod writer;
 
+pub use frame::length_field;
 use model::Block;
 
 // The numbers of a kind 1 record (a book): n, m, the start and the accepting states. Its moves stay in the slice.

@@ -9,12 +9,12 @@ returns : tie.Need-returns
 unfolding unframed
 returns c = rw (lt-ltb _ _ (c .if1 .taken))
 
-read-requires : tie.Need-read-requires
-read-requires c κs = search needs
+length-field-requires : tie.Need-length-field-requires
+length-field-requires c κs = search needs
 
 returns-2 : tie.Need-returns-2
 unfolding unframed
-returns-2 c = rw (le-ltb _ _ (c .before .if1 .left), c .read .ensures .0)
+returns-2 c = rw (le-ltb _ _ (c .before .if1 .left), c .length-field .ensures)
 
 pub unframed-spec : {M : Type 1} → statement M
-unframed-spec = tie.close (tie.spec returns read-requires returns-2)
+unframed-spec = tie.close (tie.spec returns length-field-requires returns-2)
