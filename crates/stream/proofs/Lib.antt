@@ -1,0 +1,2 @@
+-- Laws of what stands next; the proofs of functions stand in folders of their names.
+pub mod Following

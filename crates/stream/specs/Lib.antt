@@ -1,0 +1,2 @@
+-- What a stream of records is (01, "The line program").
+pub mod Stream
