@@ -1,3 +1,2 @@
 -- Laws that several functions' proofs cite; the functions' own proofs stand in folders of their names.
 pub mod Accepted
-pub mod Filled

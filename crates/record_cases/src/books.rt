@@ -2,7 +2,7 @@
 ghost use mathlib.Core.Path.{_≡_};
 ghost use Prim.Native.Nat.{_*_, _<_};
 ghost use lib.ListN.{length};
-use crate::show;
+use case_text::show;
 use records::BookOrRefusal;
 
 // Writes the refusal of a book.

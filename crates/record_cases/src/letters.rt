@@ -1,6 +1,6 @@
 // The commands on letters and their signs.
-use crate::show;
 use alphabet::Letter;
+use case_text::show;
 
 // Writes the sign of each letter.
 pub fn signs(numbers: &[u8]) {

@@ -2,13 +2,14 @@
 // case is `NAME: COMMAND HEX HEX ..`; an empty line and a line that starts with `#` are none.
 
 mod books;
-mod hex;
 mod letters;
 mod masks;
-mod show;
-mod text;
 
-use hex::Filled;
+use case_text::case;
+use case_text::hex;
+use case_text::hex::Filled;
+use case_text::show;
+use case_text::text;
 use libc::STDIN_FILENO;
 
 // Reads the cases and runs them.
@@ -29,35 +30,24 @@ fn run_lines(input: &[u8], bytes: &mut [u8]) {
     }
 }
 
-// Writes the line of a case: its name, all up to the colon, and its answer. A line that is no case writes nothing.
+// Writes the line of a case: its name and its answer. A line that is no case writes nothing.
 fn run_line(line: &[u8], bytes: &mut [u8]) {
-    if line.len() == 0 {
+    if !case::is_case(line) {
         return;
     }
-    if line[0] == b'#' {
-        return;
-    }
-    let colon = text::find(line, 0, b':');
-    show::text(&line[0..colon]);
-    show::text(b": ");
-    answer(&line[colon..], bytes);
+    let start = case::write_name(line);
+    answer(&line[start..], bytes);
     show::text(b"\n");
 }
 
-// Answers the case whose text behind the name is lent: the colon, a blank, the command and the bytes in hex.
+// Answers the case whose text behind the name is lent: the command and the bytes in hex.
 fn answer(case: &[u8], bytes: &mut [u8]) {
-    if case.len() < 2 {
-        return show::unreadable();
-    }
-    if case[1] != b' ' {
-        return show::unreadable();
-    }
-    let end = text::find(case, 2, b' ');
+    let end = text::find(case, 0, b' ');
     let got = hex::read_bytes(&case[end..], bytes);
     let Filled::Count(count) = got else {
         return show::unreadable();
     };
-    run_command(&case[2..end], &bytes[0..count]);
+    run_command(&case[0..end], &bytes[0..count]);
 }
 
 // Answers a command on the bytes of its case.

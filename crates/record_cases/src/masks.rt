@@ -1,6 +1,7 @@
 // The commands on a kind 2 record (a mask).
 ghost use Rattle.record_cases.specs.Holds.{Holds};
-use crate::show;
+use case_text::buffer::untouched;
+use case_text::show;
 use model::Block;
 use records::MaskOrRefusal;
 
@@ -80,16 +81,4 @@ fn comes_back(bytes: &[u8], blocks: usize) -> bool
     let mut out = [0xEEu8; 12300];
     let size = records::write_mask(&bases, &lowers, &uppers, blocks, &mut out);
     check::same(bytes, &out[0..size]) && untouched(&out[size..])
-}
-
-// Whether each byte is the one that the answer buffer is filled with.
-fn untouched(bytes: &[u8]) -> bool {
-    let mut i = 0;
-    while i < bytes.len() {
-        if bytes[i] != 0xEE {
-            return false;
-        }
-        i += 1;
-    }
-    true
 }

@@ -1,23 +1,8 @@
 -- `record_cases::answer` meets its contract. Assumes nothing.
 use borrow.Author.Needs.{needs}
-use Rattle.record_cases.proofs.Filled.{within}
+use Rattle.case_text.proofs.Filled.{within}
 use Rattle.record_cases.proofs.answer.Statement.{statement}
 use Rattle.record_cases.proofs.answer.Tie as tie
-
-unreadable-requires : tie.Need-unreadable-requires
-unreadable-requires c κs = search needs
-
-returns : tie.Need-returns
-returns c = search needs
-
-shared-slice-read-if2 : tie.Need-shared-slice-read-if2
-shared-slice-read-if2 c = search needs
-
-unreadable-requires-2 : tie.Need-unreadable-requires-2
-unreadable-requires-2 c κs = search needs
-
-returns-2 : tie.Need-returns-2
-returns-2 c = search needs
 
 find-requires : tie.Need-find-requires
 find-requires c κs = search needs
@@ -40,14 +25,14 @@ enum-known-got c = search needs
 enum-told : tie.Need-enum-told
 enum-told c = search needs
 
-unreadable-requires-3 : tie.Need-unreadable-requires-3
-unreadable-requires-3 c κs = search needs
+unreadable-requires : tie.Need-unreadable-requires
+unreadable-requires c κs = search needs
 
 same-length : tie.Need-same-length
 same-length c = search needs
 
-returns-3 : tie.Need-returns-3
-returns-3 c = search needs
+returns : tie.Need-returns
+returns c = search needs
 
 sub-run-command : tie.Need-sub-run-command
 sub-run-command c = search needs
@@ -73,18 +58,13 @@ run-command-requires c κs = search needs
 same-length-2 : tie.Need-same-length-2
 same-length-2 c = search needs
 
-returns-4 : tie.Need-returns-4
-returns-4 c = search needs
+returns-2 : tie.Need-returns-2
+returns-2 c = search needs
 
 pub answer-spec : {M : Type 1} → statement M
 answer-spec =
     tie.close
     (tie.spec
-    unreadable-requires
-    returns
-    shared-slice-read-if2
-    unreadable-requires-2
-    returns-2
     find-requires
     sub-read-bytes
     part-read-bytes-start
@@ -92,9 +72,9 @@ answer-spec =
     read-bytes-requires
     enum-known-got
     enum-told
-    unreadable-requires-3
+    unreadable-requires
     same-length
-    returns-3
+    returns
     sub-run-command
     part-run-command-start
     part-run-command-end
@@ -103,4 +83,4 @@ answer-spec =
     part-run-command-end-2
     run-command-requires
     same-length-2
-    returns-4)
+    returns-2)

@@ -1,10 +1,10 @@
--- `record_cases::hex::read_token` meets its contract. Assumes nothing.
+-- `case_text::hex::read_token` meets its contract. Assumes nothing.
 use native.Mathlib.Omega.{arith}
 use borrow.Author.Needs.{needs}
 use borrow.Author.Tests.{ltb-false}
 use lib.ListN.{length-set}
-use Rattle.record_cases.proofs.hex.read_token.Statement.{statement}
-use Rattle.record_cases.proofs.hex.read_token.Tie as tie
+use Rattle.case_text.proofs.hex.read_token.Statement.{statement}
+use Rattle.case_text.proofs.hex.read_token.Tie as tie
 
 returns : tie.Need-returns
 returns c = search needs

@@ -1,10 +1,10 @@
--- `record_cases::hex::repeat_last` meets its contract. Assumes nothing.
+-- `case_text::hex::repeat_last` meets its contract. Assumes nothing.
 use Prim.Native.Nat.{_-_, _≤_}
 use mathlib.Core.Path.{_≡_}
 use borrow.Author.Needs.{needs}
 use lib.ListN.{length}
-use Rattle.record_cases.proofs.hex.repeat_last.Statement.{statement}
-use Rattle.record_cases.proofs.hex.repeat_last.Tie as tie
+use Rattle.case_text.proofs.hex.repeat_last.Statement.{statement}
+use Rattle.case_text.proofs.hex.repeat_last.Tie as tie
 
 abbrev Inv-loop : tie.InvT-loop
 Inv-loop digits bytes₀ count times end last i₀ bytes i = (end ≤ length bytes) × (length bytes ≡ length bytes₀)

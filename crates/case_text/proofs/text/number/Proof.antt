@@ -1,9 +1,9 @@
--- `record_cases::text::number` meets its contract. Assumes nothing.
+-- `case_text::text::number` meets its contract. Assumes nothing.
 use Prim.Native.Nat.{_-_, _≤_, _<_}
 use borrow.Author.Needs.{needs}
 use lib.ListN.{length}
-use Rattle.record_cases.proofs.text.number.Statement.{statement}
-use Rattle.record_cases.proofs.text.number.Tie as tie
+use Rattle.case_text.proofs.text.number.Statement.{statement}
+use Rattle.case_text.proofs.text.number.Tie as tie
 
 abbrev Inv-loop : tie.InvT-loop
 Inv-loop digits n₀ at₀ n at = (n < 100000) × (at ≤ length digits)

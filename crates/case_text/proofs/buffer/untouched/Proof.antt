@@ -1,9 +1,9 @@
--- `record_cases::masks::untouched` meets its contract. Assumes nothing.
+-- `case_text::buffer::untouched` meets its contract. Assumes nothing.
 use Prim.Native.Nat.{_-_, _≤_}
 use borrow.Author.Needs.{needs}
 use lib.ListN.{length}
-use Rattle.record_cases.proofs.masks.untouched.Statement.{statement}
-use Rattle.record_cases.proofs.masks.untouched.Tie as tie
+use Rattle.case_text.proofs.buffer.untouched.Statement.{statement}
+use Rattle.case_text.proofs.buffer.untouched.Tie as tie
 
 abbrev Inv-loop : tie.InvT-loop
 Inv-loop bytes i₀ i = i ≤ length bytes

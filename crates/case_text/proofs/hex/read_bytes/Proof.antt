@@ -1,12 +1,12 @@
--- `record_cases::hex::read_bytes` meets its contract. Assumes nothing.
+-- `case_text::hex::read_bytes` meets its contract. Assumes nothing.
 use Prim.Native.Nat.{_-_, _≤_}
 use mathlib.Core.Path.{_≡_}
 use native.Mathlib.Omega.{arith}
 use borrow.Author.Needs.{needs}
 use lib.ListN.{length}
-use Rattle.record_cases.proofs.Filled.{within}
-use Rattle.record_cases.proofs.hex.read_bytes.Statement.{statement}
-use Rattle.record_cases.proofs.hex.read_bytes.Tie as tie
+use Rattle.case_text.proofs.Filled.{within}
+use Rattle.case_text.proofs.hex.read_bytes.Statement.{statement}
+use Rattle.case_text.proofs.hex.read_bytes.Tie as tie
 
 abbrev Inv-loop : tie.InvT-loop
 Inv-loop tokens bytes₀ count₀ at₀ bytes count at = (count ≤ length bytes) × (length bytes ≡ length bytes₀)

@@ -1,7 +1,7 @@
 // Bytes from hex text: tokens with blanks between, each two hex digits, or `*N` behind a byte that stands N times in all.
 ghost use Prim.Native.Nat.{_≤_};
 ghost use lib.ListN.{length};
-ghost use Rattle.record_cases.specs.Filled.{Within};
+ghost use Rattle.case_text.specs.Filled.{Within};
 use crate::text;
 
 // How many bytes of a buffer hold what was read, or that it cannot be read.
