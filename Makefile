@@ -22,7 +22,7 @@ hosts: $(HOSTS)/test $(HOSTS)/example
 	@$(HOSTS)/example | diff - hosts/c/example.out
 	@$(HOSTS)/test
 
-TEST = $(addprefix hosts/c/, test.c test_tidy_try.c test_narrow.c faults.c record.c lent.c stack.c)
+TEST = $(addprefix hosts/c/, test.c count.c test_tidy_try.c test_narrow.c faults.c record.c lent.c stack.c)
 
 $(HOSTS)/test: lib $(TEST) $(wildcard hosts/c/*.h) include/fekhvina.h
 	@$(CC) $(CFLAGS) -o $@ $(TEST) $(LIB)
