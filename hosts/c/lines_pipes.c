@@ -35,7 +35,8 @@ static void lines_at_once(void)
     exchange(&process, MASK_A, "1 some 1 1 2\n");
     exchange(&process, MASK_A " " MASK_A, "2 some 1 1 2\n3 some 1 1 2\n");
     exchange(&process, MASK_A " 12", "4 some 1 1 2\n");
-    exchange(&process, "00 02 00 01 00 07 00 00 00 00 00 00 00 00 00 02 00 " MASK_A " 12 00 02 00 01 00 07", "5 some 1 1 2\n6 some 1 1 2\n");
+    exchange(&process, "00 02 00 01 00 07 00 00 00 00 00 00 00 00 00 02 00 " MASK_A " 12 00 02 00 01 00 07",
+             "5 some 1 1 2\n6 some 1 1 2\n");
     exchange(&process, "00 00 00 00 00 00 00 00 00 02 00 04 00 02 00", "7 some 1 1 2\n8 refused 3 0 0\n");
     exchange(&process, "12 00", "");
     stream_print(&expected, "9 refused 1 0 0\n");
@@ -101,7 +102,8 @@ void test_pipes(void)
 {
     lines_at_once();
     ends_by_itself("a refused book ends it while the input stays open", MASK_A " " MASK_A, "book refused 2\n");
-    ends_by_itself("a length field of 0 ends it while the input stays open", BOOK_A " 00 00 02 00 00 00 " MASK_A, "1 refused 1 0 0\n");
+    ends_by_itself("a length field of 0 ends it while the input stays open", BOOK_A " 00 00 02 00 00 00 " MASK_A,
+                   "1 refused 1 0 0\n");
     output_closed("output closed behind a line", BOOK_A " " MASK_A, "1 some 1 1 2\n", 0);
     output_closed("output closed behind a line, SIGPIPE ignored", BOOK_A " " MASK_A, "1 some 1 1 2\n", 1);
     output_closed("output closed behind the book", BOOK_A, "", 0);

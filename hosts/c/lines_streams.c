@@ -28,7 +28,8 @@ static void expect_plain(unsigned number)
         stream_print(&expected, "%u refused %u 0 0\n", number, answer.refusal);
     } else {
         stream_print(&expected, "%u %s %u %u %u\n", number, words[answer.verdict],
-                     (unsigned)(answer.bytes > 0 ? (answer.bytes - 6) / 12 : 0), sum(out, answer.bytes, 8), sum(out, answer.bytes, 10));
+                     (unsigned)(answer.bytes > 0 ? (answer.bytes - 6) / 12 : 0), sum(out, answer.bytes, 8),
+                     sum(out, answer.bytes, 10));
     }
 }
 
