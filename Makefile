@@ -1,11 +1,17 @@
 CFLAGS = -std=c99 -Wall -Wextra -Wpedantic -Werror -O2 -Iinclude
 LIB = target/staticlib/libfekhvina.a
+PROGRAM = target/bin/narrow_lines
 HOSTS = target/hosts
+TOOLS = target/tools
 
-.PHONY: run check lib hosts test
+.PHONY: run example check lib program hosts lines tools test
+
+# The line program on 01's sample.
+run: program
+	@$(PROGRAM) < crates/narrow_lines/stdin
 
 # The example host: a mask tidied and narrowed, a place asked for, a code tried.
-run: $(HOSTS)/example
+example: $(HOSTS)/example
 	@$(HOSTS)/example
 
 # Proves every crate that changed since it was last proved, and runs the cases.
@@ -17,20 +23,51 @@ lib:
 	@mkdir -p $(HOSTS)
 	@rt staticlib fekhvina > $(HOSTS)/lib.log 2>&1 || { cat $(HOSTS)/lib.log; exit 1; }
 
-# Tries the archive from C. Its last line is 'N passed, 0 failed'.
+# The line program, proved.
+program:
+	@mkdir -p $(HOSTS)
+	@rt check narrow_lines > $(HOSTS)/program.log 2>&1 || { cat $(HOSTS)/program.log; exit 1; }
+
+# The last line of each of the next three is 'N passed, 0 failed'.
+
+# Tries the archive from C.
 hosts: $(HOSTS)/test $(HOSTS)/example
 	@$(HOSTS)/example | diff - hosts/c/example.out
 	@$(HOSTS)/test
 
-TEST = $(addprefix hosts/c/, test.c test_tidy_try.c test_narrow.c faults.c record.c lent.c stack.c)
+# Tries the line program through pipes.
+lines: program $(HOSTS)/lines
+	@$(HOSTS)/lines $(PROGRAM)
 
-$(HOSTS)/test: lib $(TEST) $(wildcard hosts/c/*.h) include/fekhvina.h
-	@$(CC) $(CFLAGS) -o $@ $(TEST) $(LIB)
+# Makes the tool that writes records from a text, and tries it.
+tools: $(TOOLS)/records $(HOSTS)/tools
+	@$(HOSTS)/tools $(TOOLS)/records tools/sample.txt
+
+TEST_C = $(addprefix hosts/c/, test.c test_tidy_try.c test_narrow.c faults.c record.c lent.c stack.c count.c)
+LINES_C = $(addprefix hosts/c/, lines.c lines_records.c lines_streams.c lines_pipes.c faults.c record.c random.c plain.c \
+    process.c stream.c count.c)
+TOOLS_C = $(addprefix hosts/c/, tools.c record.c process.c stream.c count.c)
+HEADERS = $(wildcard hosts/c/*.h) include/fekhvina.h
+
+$(HOSTS)/test: lib $(TEST_C) $(HEADERS)
+	@$(CC) $(CFLAGS) -o $@ $(TEST_C) $(LIB)
 
 $(HOSTS)/example: lib hosts/c/example.c include/fekhvina.h
 	@$(CC) $(CFLAGS) -o $@ hosts/c/example.c $(LIB)
 
-# The gate, from nothing: proves every crate, tries every must-fail edit, then the hosts' tests. Its last line is
+$(HOSTS)/lines: $(LINES_C) $(HEADERS)
+	@mkdir -p $(HOSTS)
+	@$(CC) $(CFLAGS) -o $@ $(LINES_C)
+
+$(HOSTS)/tools: $(TOOLS_C) $(HEADERS)
+	@mkdir -p $(HOSTS)
+	@$(CC) $(CFLAGS) -o $@ $(TOOLS_C)
+
+$(TOOLS)/records: tools/records.c
+	@mkdir -p $(TOOLS)
+	@$(CC) $(CFLAGS) -o $@ tools/records.c
+
+# The gate, from nothing: proves every crate, tries every must-fail edit, then the tests in C. Its last line is
 # 'N passed, 0 failed', with all of them counted.
 test:
 	@hosts/gate

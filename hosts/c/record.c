@@ -52,3 +52,20 @@ void hex(struct bytes *to, const char *text)
         }
     }
 }
+
+void largest_book(struct bytes *to)
+{
+    enum { STATES = 63, LETTERS = 64 };
+    to->len = 0;
+    add(to, 15 + STATES * LETTERS, 2);
+    add(to, 1, 2);
+    add(to, STATES, 1);
+    add(to, LETTERS, 1);
+    add(to, 0, 1);
+    add(to, LETTER(0) | LETTER(62), 8);
+    for (unsigned q = 0; q < STATES; q++) {
+        for (unsigned c = 0; c < LETTERS; c++) {
+            add(to, q < 62 && c == q ? q + 1 : q == 62 && c == 63 ? 0 : 255, 1);
+        }
+    }
+}

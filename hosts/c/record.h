@@ -1,5 +1,5 @@
 /*
- * Records for tests: masks built from blocks, and any record from hex.
+ * Records for tests: masks built from blocks, the largest book, and any record from hex.
  */
 #ifndef RECORD_H
 #define RECORD_H
@@ -31,6 +31,9 @@ void mask_record(struct bytes *to, const struct block *blocks, unsigned count);
 
 /* A mask of the same block, again and again, or of two by turns. */
 void mask_repeated(struct bytes *to, struct block even, struct block odd, unsigned count);
+
+/* The largest book: q by letter q to q + 1, but 62 by letter 63 to 0; start 0 and state 62 accept. */
+void largest_book(struct bytes *to);
 
 /* The bytes of a text in hex: two digits each, single blanks between them. */
 void hex(struct bytes *to, const char *text);

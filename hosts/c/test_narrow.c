@@ -12,7 +12,7 @@
 
 enum { NONE = 1, ALL, ONE, SOME };
 
-/* ---- heights, and the largest book */
+/* ---- heights */
 
 #define PLUS LETTER(0)
 #define MINUS LETTER(1)
@@ -21,24 +21,6 @@ enum { NONE = 1, ALL, ONE, SOME };
 #define DIGITS UINT64_C(0xFFC)
 #define UP_TO_1 (DIGIT(0) | DIGIT(1))
 #define UP_TO_2 (UP_TO_1 | DIGIT(2))
-
-/* The largest book: q by letter q to q + 1, but 62 by letter 63 to 0; start 0 and state 62 accept. */
-static void largest_book(struct bytes *to)
-{
-    enum { STATES = 63, LETTERS = 64 };
-    to->len = 0;
-    add(to, 15 + STATES * LETTERS, 2);
-    add(to, 1, 2);
-    add(to, STATES, 1);
-    add(to, LETTERS, 1);
-    add(to, 0, 1);
-    add(to, LETTER(0) | LETTER(62), 8);
-    for (unsigned q = 0; q < STATES; q++) {
-        for (unsigned c = 0; c < LETTERS; c++) {
-            add(to, q < 62 && c == q ? q + 1 : q == 62 && c == 63 ? 0 : 255, 1);
-        }
-    }
-}
 
 /* ---- narrow */
 

@@ -1,0 +1,35 @@
+/*
+ * A plain narrow and place, written from document 01 alone: what the tests of the line program compare with, and what the
+ * product's speed is measured against. It shares no code with the product, and nothing in it is proved.
+ */
+#ifndef PLAIN_H
+#define PLAIN_H
+
+#include <stddef.h>
+#include <stdint.h>
+
+/* The verdicts as numbers. */
+enum { PLAIN_NONE = 1, PLAIN_ALL, PLAIN_ONE, PLAIN_SOME };
+
+/* What narrow answers: verdict and bytes are 0 where refusal is not. */
+struct plain_answer {
+    unsigned refusal, verdict;
+    size_t bytes;
+};
+
+/* What place answers: all but refusal is 0 where the verdict is none, or where refusal is not 0. */
+struct plain_place {
+    unsigned refusal;
+    uint64_t set;
+    unsigned lower, upper;
+};
+
+/* Narrows a mask by a book, and writes the answer over the first bytes of out, which has this much room. */
+struct plain_answer plain_narrow(const uint8_t *book, size_t book_len, const uint8_t *mask, size_t mask_len, uint8_t *out,
+                                 size_t room);
+
+/* The entry of the narrowed list for a block, from 1, and its place; place 0 is the optional part. */
+struct plain_place plain_place(const uint8_t *book, size_t book_len, const uint8_t *mask, size_t mask_len, uint32_t block,
+                               uint32_t place);
+
+#endif

@@ -1,0 +1,25 @@
+/*
+ * Random records for tests. The same seed gives the same records.
+ */
+#ifndef RANDOM_H
+#define RANDOM_H
+
+#include "record.h"
+
+#include <stdint.h>
+
+void random_seed(uint64_t seed);
+
+/* A number from 0 to n - 1; n is not 0. */
+unsigned random_below(unsigned n);
+
+/* A good book: small or large, with many moves or few. */
+void random_book(struct bytes *to);
+
+/* A good mask for a good book. */
+void random_mask(struct bytes *to, const struct bytes *book);
+
+/* Changes a record so that it is most often refused. Its length field is the number of its bytes, and at least 4. */
+void random_damage(struct bytes *record);
+
+#endif
