@@ -1,2 +1,3 @@
 -- Laws of what stands next; the proofs of functions stand in folders of their names.
 pub mod Following
+pub mod Shifting

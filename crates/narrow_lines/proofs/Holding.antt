@@ -1,0 +1,57 @@
+-- Buffers keep their lengths, and what is held and printed lies within them.
+-- Assumes nothing.
+use Prim.Native.Nat.{ℕ, _+_, _-_, _≤_, _<_}
+use mathlib.Core.Path.{_≡_, refl, sym, _∙_}
+use mathlib.Core.Bool.{Bool}
+use mathlib.Core.List.{List}
+use native.Mathlib.Omega.{arith}
+use lib.ListN.{length, take}
+use lib.Seq.{length-take-le}
+use Rattle.lines.specs.declared.Pause.the-variants.{More}
+use Rattle.lines.specs.declared.Progress.{Progress}
+use Rattle.lines.specs.declared.Opened.{Opened}
+use Rattle.lines.specs.declared.Opened.the-variants.{Book, Refused, Unopened}
+use Rattle.lines.specs.Output.{Advances, Opens}
+use Rattle.narrow_lines.specs.Begun.{Within}
+
+-- a loop that holds so many bytes of the first of three buffers
+pub record Holding (a₀ b₀ c₀ a b c : List ℕ) (size : ℕ) : Type 0 where
+  pub within : size ≤ length a
+  pub first : length a ≡ length a₀
+  pub second : length b ≡ length b₀
+  pub third : length c ≡ length c₀
+
+pub holding : (a b c : List ℕ) (size : ℕ) → size ≤ length a → Holding a b c a b c size
+holding a b c size h = record { within = h; first = refl; second = refl; third = refl }
+
+module _ (a₀ b₀ c₀ a b c : List ℕ) (size : ℕ) (held : Holding a₀ b₀ c₀ a b c size) where
+  -- so many bytes of a buffer, as they are lent
+  pub lent : size ≡ length (take size a)
+  lent = sym (length-take-le size a (held .within))
+
+  -- what the input begins with lies within the buffers
+  pub opened-within : (ended : Bool) (book out : List ℕ) (got : Opened) → Opens (take size a) ended book out got
+      → Within got size (length book) (length out)
+  opened-within ended book out (Book k) (fits, room, _) = (omega (arith, fits, lent), room)
+  opened-within ended book out (Refused k) (room, _) = room
+  opened-within ended book out Unopened _ = tt
+
+  -- where the book is not whole, the buffer has room for more
+  pub unopened-room : (ended : Bool) (book out : List ℕ) (got : Opened) → 65536 ≤ length a₀ → Opens (take size a) ended book out got
+      → got ≡ Unopened → size < length a
+  unopened-room ended book out got h o e =
+      let (_, few) = rw e at o in
+      omega (arith, few, lent, held .first)
+
+  -- the lines of what is held
+  module _ (bs : List ℕ) (ended : Bool) (n : ℕ) (out : List ℕ) (r : Progress) (done : Advances bs (take size a) ended n out r) where
+    pub taken-within : r .taken ≤ size
+    taken-within = omega (arith, done .taken, lent)
+
+    -- what is left lies within the buffer, and where more is wanted, this has room for it
+    pub left-room : (left room : ℕ) → 65536 ≤ length a₀ → left ≡ size - r .taken → room ≡ length a
+        → (left ≤ room) × (r .pause ≡ More → left < room)
+    left-room left room h e same = (
+      omega (arith, e, same, held .within),
+      λ p. let (_, few) = done .more p in omega (arith, few, e, same, lent, held .first, taken-within),
+    )
