@@ -21,7 +21,8 @@ use Rattle.lines.specs.declared.Opened.{Opened}
 use Rattle.lines.specs.declared.Opened.the-variants.{Book, Refused, Unopened}
 use Rattle.lines.specs.Text.{Appends}
 use Rattle.lines.specs.Line.{bookLine}
-use Rattle.lines.specs.Output.{linesFrom, unlessRefused, opened, output, Later, Taken, Opens}
+use Rattle.lines.specs.Output.{linesFrom, bookLineOr, opened, output}
+use Rattle.lines.specs.Parts.{Later, Taken, Opens}
 use Rattle.lines.proofs.Stepping.{ended-none}
 use Rattle.lines.proofs.Running.{put-within}
 
@@ -61,7 +62,7 @@ taken-refused bs old new book n size e put =
 -- ---- what an input begins with
 
 -- a refused book's line is all that is printed
-refused-only : (r : ℕ) (lines : List ℕ) → 0 < r → unlessRefused r lines ≡ bookLine r
+refused-only : (r : ℕ) (lines : List ℕ) → 0 < r → bookLineOr r lines ≡ bookLine r
 refused-only zero lines h = absurd (omega arith)
 refused-only (suc r) lines h = refl
 
@@ -71,7 +72,7 @@ module _ (input : List ℕ) (ended : Bool) (book text : List ℕ) where
     abbrev bs : List ℕ
     bs = take k input
 
-    settled : (later : List ℕ) → output (input ++ later) ≡ unlessRefused (bookRefusal bs) (linesFrom bs 1 (drop k input ++ later))
+    settled : (later : List ℕ) → output (input ++ later) ≡ bookLineOr (bookRefusal bs) (linesFrom bs 1 (drop k input ++ later))
     unfolding output
     settled later =
         let (_, _, _, fits) = tell input (Whole k) whole in

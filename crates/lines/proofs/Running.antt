@@ -13,7 +13,8 @@ use Rattle.lines.specs.declared.Pause.the-variants.{Full, More, Done}
 use Rattle.lines.specs.declared.masks.Step.{Step}
 use Rattle.lines.specs.declared.masks.Step.the-variants.{Line, Last, Wanting}
 use Rattle.lines.specs.Text.{Appends}
-use Rattle.lines.specs.Output.{maskLines, linesFrom, Later, Advances, Steps}
+use Rattle.lines.specs.Output.{maskLines, linesFrom}
+use Rattle.lines.specs.Parts.{Later, Advances, Steps}
 
 -- the loop before a mask: the text is what is printed first, and the rest is printed for what is not taken
 pub record Running (bs input : List ℕ) (ended : Bool) (first : ℕ) (answer₀ out₀ answer out : List ℕ) (taken size number : ℕ) : Type 0 where
@@ -109,11 +110,11 @@ module _ (bs input : List ℕ) (ended : Bool) (first : ℕ) (answer₀ out₀ an
         → Advances bs input ended first out' (record { taken = taken; size = size; number = number; pause = More })
     unfolding code
     running-wants e =
-        let (same, goes, few) = rw (e, part-rest taken input) at steps in
+        let (same, goes, unsettled, few) = rw (e, part-rest taken input) at steps in
         record {
           lines = rw same (running .lines);
           taken = running .within;
           size = rw same (running .filled);
           full = λ e. absurd (omega (arith, ap code e));
-          more = λ _. (goes, omega (arith, few, running .within, length-drop taken input));
+          more = λ _. (goes, unsettled, omega (arith, few, running .within, length-drop taken input));
         }

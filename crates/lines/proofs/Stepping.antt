@@ -12,13 +12,14 @@ use Rattle.records.specs.Bytes.{Bytes}
 use Rattle.stream.specs.declared.Next.{Next}
 use Rattle.stream.specs.declared.Next.the-variants.{Whole, Short, Cut, End}
 use Rattle.stream.specs.Stream.{next}
-use Rattle.stream.proofs.Following.{tell, cut-few, whole-behind, short-behind}
+use Rattle.stream.proofs.Following.{tell, whole-behind, short-behind}
 use Rattle.lines.specs.declared.Pause.the-variants.{Full, More, Done}
 use Rattle.lines.specs.declared.masks.Step.{Step}
 use Rattle.lines.specs.declared.masks.Step.the-variants.{Line, Last, Wanting}
 use Rattle.lines.specs.Text.{Appends}
 use Rattle.lines.specs.Line.{refusedLine, maskLine}
-use Rattle.lines.specs.Output.{byNext, maskLines, linesFrom, Later, Steps}
+use Rattle.lines.specs.Output.{byNext, maskLines, linesFrom}
+use Rattle.lines.specs.Parts.{Later, Steps}
 
 -- ---- one mask
 

@@ -3,4 +3,5 @@ pub mod Text
 pub mod Line
 pub mod Sums
 pub mod Output
+pub mod Parts
 pub mod Samples

@@ -1,7 +1,7 @@
 // The lines of the masks that a part of the input holds.
 ghost use Prim.Native.Nat.{_+_, _≤_};
 ghost use lib.ListN.{length};
-ghost use Rattle.lines.specs.Output.{Advances, Steps};
+ghost use Rattle.lines.specs.Parts.{Advances, Steps};
 use crate::Pause;
 use crate::Progress;
 use crate::answer::mask_line;

@@ -1,7 +1,7 @@
 // The book that an input begins with.
 ghost use Prim.Native.Nat.{_≤_};
 ghost use lib.ListN.{length};
-ghost use Rattle.lines.specs.Output.{Taken, Opens};
+ghost use Rattle.lines.specs.Parts.{Taken, Opens};
 use crate::Opened;
 use crate::line::book_line;
 use records::BookOrRefusal;

@@ -11,7 +11,7 @@ use Rattle.lines.specs.declared.Pause.the-variants.{More}
 use Rattle.lines.specs.declared.Progress.{Progress}
 use Rattle.lines.specs.declared.Opened.{Opened}
 use Rattle.lines.specs.declared.Opened.the-variants.{Book, Refused, Unopened}
-use Rattle.lines.specs.Output.{Advances, Opens}
+use Rattle.lines.specs.Parts.{Advances, Opens}
 use Rattle.narrow_lines.specs.Begun.{Within}
 
 -- a loop that holds so many bytes of the first of three buffers
@@ -40,7 +40,7 @@ module _ (a₀ b₀ c₀ a b c : List ℕ) (size : ℕ) (held : Holding a₀ b�
   pub unopened-room : (ended : Bool) (book out : List ℕ) (got : Opened) → 65536 ≤ length a₀ → Opens (take size a) ended book out got
       → got ≡ Unopened → size < length a
   unopened-room ended book out got h o e =
-      let (_, few) = rw e at o in
+      let (_, _, few) = rw e at o in
       omega (arith, few, lent, held .first)
 
   -- the lines of what is held
@@ -53,5 +53,5 @@ module _ (a₀ b₀ c₀ a b c : List ℕ) (size : ℕ) (held : Holding a₀ b�
         → (left ≤ room) × (r .pause ≡ More → left < room)
     left-room left room h e same = (
       omega (arith, e, same, held .within),
-      λ p. let (_, few) = done .more p in omega (arith, few, e, same, lent, held .first, taken-within),
+      λ p. let (_, _, few) = done .more p in omega (arith, few, e, same, lent, held .first, taken-within),
     )

@@ -14,7 +14,7 @@ use Rattle.records.specs.Check.{lengthField}
 use Rattle.records.proofs.Numbers.{number-lt}
 use Rattle.stream.specs.declared.Next.{Next}
 use Rattle.stream.specs.declared.Next.the-variants.{Whole, Short, Cut, End}
-use Rattle.stream.specs.Stream.{next}
+use Rattle.stream.specs.Stream.{next, Unsettled}
 
 -- the answer by each of the tests in turn
 abbrev by : Bool → Bool → Bool → Bool → ℕ → Next
@@ -73,9 +73,12 @@ module _ (bs : List ℕ) where
   pub tell : (x : Next) → x ≡ next bs → Tells bs x
   tell x e = rw (sym e) at (told bs)
 
-  -- a record that is cut off is shorter than any record may be
-  pub cut-few : Bytes bs → Cut ≡ next bs → length bs < 65535
-  cut-few h e = ⊎-elim (λ l. omega arith) (λ l. omega (arith, number-lt 2 bs 0 h)) (tell Cut e)
+  -- more bytes can change these two, and there are fewer than the longest record has
+  pub cut-open : Bytes bs → Cut ≡ next bs → Unsettled (next bs) × (length bs < 65535)
+  cut-open h e = (rw (← e) tt, ⊎-elim (λ l. omega arith) (λ l. omega (arith, number-lt 2 bs 0 h)) (tell Cut e))
+
+  pub end-open : End ≡ next bs → Unsettled (next bs) × (length bs < 65535)
+  end-open e = (rw (← e) tt, omega (arith, tell End e))
 
   -- what comes later does not change which record is next, nor that its length field is too small
   module _ (rest : List ℕ) where

@@ -16,3 +16,10 @@ next bs =
     (cond (ltb (lengthField bs) 4) Short
     (cond (ltb (length bs) (lengthField bs)) Cut
     (Whole (lengthField bs)))))
+
+-- what more bytes can change: a record that is cut off, or nothing
+abbrev pub Unsettled : Next → Type 0
+Unsettled (Whole k) = ⊥
+Unsettled Short = ⊥
+Unsettled Cut = Unit {0}
+Unsettled End = Unit {0}

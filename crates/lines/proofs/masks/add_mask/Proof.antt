@@ -3,7 +3,7 @@ use native.Mathlib.Omega.{arith}
 use borrow.Author.Tests.{not-true, not-false}
 use lib.Seq.{length-take-le}
 use borrow.Author.Needs.{needs}
-use Rattle.stream.proofs.Following.{tell, cut-few}
+use Rattle.stream.proofs.Following.{tell, cut-open, end-open}
 use Rattle.lines.proofs.Appending.{nothing-put}
 use Rattle.lines.proofs.Stepping.{whole-lines, short-lines, cut-lines, end-lines, ended-none}
 use Rattle.lines.proofs.masks.add_mask.Statement.{statement}
@@ -46,7 +46,9 @@ enum-told-2 c = search needs
 
 -- src/masks.rt:42:17
 returns : tie.Need-returns
-returns c = (refl, not-true _ (c .if1 .taken), cut-few _ (λ i. omega (arith, c .before .before .before .before .before .before .shared-slice-known2 .given i)) (sym (c .before .enum-told2 .given .1) ∙ c .before .before .before .next-record .ensures))
+returns c =
+    let (unsettled, few) = cut-open _ (λ i. omega (arith, c .before .before .before .before .before .before .shared-slice-known2 .given i)) (sym (c .before .enum-told2 .given .1) ∙ c .before .before .before .next-record .ensures) in
+    (refl, not-true _ (c .if1 .taken), unsettled, few)
 
 -- src/masks.rt:44:24
 refused-line-requires-2 : tie.Need-refused-line-requires-2
@@ -58,7 +60,9 @@ enum-told-3 c = search needs
 
 -- src/masks.rt:48:17
 returns-2 : tie.Need-returns-2
-returns-2 c = (refl, not-true _ (c .if2 .taken), omega (arith, tell _ _ (sym (c .before .enum-told3 .given .1) ∙ c .before .before .before .next-record .ensures)))
+returns-2 c =
+    let (unsettled, few) = end-open _ (sym (c .before .enum-told3 .given .1) ∙ c .before .before .before .next-record .ensures) in
+    (refl, not-true _ (c .if2 .taken), unsettled, few)
 
 -- src/masks.rt:21:1
 same-length : tie.Need-same-length

@@ -4,7 +4,7 @@ use native.Mathlib.Omega.{arith}
 use borrow.Author.Tests.{not-true, not-false}
 use lib.Seq.{length-take-le}
 use borrow.Author.Needs.{needs}
-use Rattle.stream.proofs.Following.{tell, cut-few}
+use Rattle.stream.proofs.Following.{tell, cut-open, end-open}
 use Rattle.lines.proofs.Openings.{put-first, opens-whole, opens-short, opens-cut, opens-end}
 use Rattle.lines.proofs.opening.open.Statement.{statement}
 use Rattle.lines.proofs.opening.open.Tie as tie
@@ -46,7 +46,9 @@ enum-told-2 c = search needs
 
 -- src/opening.rt:34:17
 returns : tie.Need-returns
-returns c = (not-true _ (c .if1 .taken), cut-few _ (λ i. omega (arith, c .before .before .before .before .before .before .shared-slice-known .given i)) (sym (c .before .enum-told2 .given .1) ∙ c .before .before .before .next-record .ensures))
+returns c =
+    let (unsettled, few) = cut-open _ (λ i. omega (arith, c .before .before .before .before .before .before .shared-slice-known .given i)) (sym (c .before .enum-told2 .given .1) ∙ c .before .before .before .next-record .ensures) in
+    (not-true _ (c .if1 .taken), unsettled, few)
 
 -- src/opening.rt:36:29
 book-line-requires-2 : tie.Need-book-line-requires-2
@@ -58,7 +60,9 @@ enum-told-3 c = search needs
 
 -- src/opening.rt:40:17
 returns-2 : tie.Need-returns-2
-returns-2 c = (not-true _ (c .if2 .taken), omega (arith, tell _ _ (sym (c .before .enum-told3 .given .1) ∙ c .before .before .before .next-record .ensures)))
+returns-2 c =
+    let (unsettled, few) = end-open _ (sym (c .before .enum-told3 .given .1) ∙ c .before .before .before .next-record .ensures) in
+    (not-true _ (c .if2 .taken), unsettled, few)
 
 -- src/opening.rt:42:29
 book-line-requires-3 : tie.Need-book-line-requires-3
