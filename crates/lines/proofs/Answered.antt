@@ -1,9 +1,9 @@
 -- The line of a mask, by what narrow promises of its answer in a buffer that suffices.
 -- Assumes nothing.
-use Prim.Native.Nat.{ℕ, zero, suc, _+_, _*_, _≤_, _<_}
+use Prim.Native.Nat.{ℕ, zero, suc, _≤_, _<_}
 use mathlib.Core.Path.{_≡_, refl, sym, _∙_, ap}
-use mathlib.Core.Logic.{_⊎_, inl, inr, ⊎-elim}
-use mathlib.Core.List.{List, []}
+use mathlib.Core.Logic.{inl, inr}
+use mathlib.Core.List.{List}
 use native.Mathlib.Nat.{lt-of-not-le}
 use native.Mathlib.Omega.{arith}
 use lib.ListN.{length, take, length-take}
@@ -28,7 +28,7 @@ use Rattle.fekhvina.proofs.Order.{refused-first, passed-first}
 use Rattle.fekhvina.proofs.Pairs.{pair-room}
 use Rattle.fekhvina.proofs.Narrowed.{narrow-suffices}
 use Rattle.lines.specs.Line.{refusedLine, blocksWritten, verdictLine, lineOr, maskLine}
-use Rattle.lines.specs.Sums.{Blocks, Recorded}
+use Rattle.lines.specs.Sums.{Recorded}
 
 -- an answer with a verdict: nothing was refused
 answered : (w v : Verdict) (m n r : ℕ) → narrowOr w m r ≡ Narrowed v n → (r ≡ 0) × (w ≡ v) × (m ≡ n)

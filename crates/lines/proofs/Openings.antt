@@ -3,7 +3,7 @@
 use Prim.Native.Nat.{ℕ, zero, suc, _+_, _*_, _≤_, _<_}
 use mathlib.Core.Path.{_≡_, refl, sym, _∙_, ap}
 use mathlib.Core.Bool.{Bool, true}
-use mathlib.Core.List.{List, [], _++_, append-nil}
+use mathlib.Core.List.{List, _++_, append-nil}
 use native.Mathlib.Nat.{mul-le-mul}
 use native.Mathlib.Omega.{arith}
 use lib.ListN.{length, take, drop, length-append}
@@ -11,7 +11,6 @@ use lib.Seq.{take-append-le, drop-append-le, length-take-le, take-append-seam, t
 use Rattle.records.specs.declared.Book as records
 use Rattle.records.specs.declared.BookOrRefusal.the-variants as bookAnswer
 use Rattle.records.specs.Book.{bookHead, bookRefusal, readBook}
-use Rattle.records.specs.WellFormed.{BookRecord}
 use Rattle.records.proofs.Answers.{book-accepted, book-refused}
 use Rattle.records.proofs.WellFormed.{book-record}
 use Rattle.stream.specs.declared.Next.the-variants.{Whole, Short, Cut, End}
@@ -21,8 +20,8 @@ use Rattle.lines.specs.declared.Opened.{Opened}
 use Rattle.lines.specs.declared.Opened.the-variants.{Book, Refused, Unopened}
 use Rattle.lines.specs.Text.{Appends}
 use Rattle.lines.specs.Line.{bookLine}
-use Rattle.lines.specs.Output.{linesFrom, bookLineOr, opened, output}
-use Rattle.lines.specs.Parts.{Later, Taken, Opens}
+use Rattle.lines.specs.Output.{linesFrom, bookLineOr, output}
+use Rattle.lines.specs.Parts.{Taken, Opens}
 use Rattle.lines.proofs.Stepping.{ended-none}
 use Rattle.lines.proofs.Running.{put-within}
 
@@ -42,10 +41,11 @@ put-first text old new r put = (put-within text old 0 new r put (omega arith), p
 
 -- an accepted book, copied
 pub taken-book : (bs old new text : List ℕ) (b : records.Book) (k : ℕ) → readBook bs ≡ bookAnswer.Accepted b → length bs ≤ length old → k ≡ length bs
-    → new ≡ take (length bs) bs ++ drop (length bs) old → Taken bs new text (Book k)
+    → new ≡ take (length bs) bs ++ drop (length bs) old → Taken bs new text (Book k 1)
 taken-book bs old new text b k e room is copied =
     let whole : new ≡ bs ++ drop (length bs) old = copied ∙ ap (λ l. l ++ drop (length bs) old) (take-length bs) in (
       is,
+      refl,
       book-accepted bs b e .0,
       omega (arith, is, ap length whole, length-append bs (drop (length bs) old)),
       rw (is, whole) (take-append-seam bs (drop (length bs) old)),
@@ -79,10 +79,10 @@ module _ (input : List ℕ) (ended : Bool) (book text : List ℕ) where
         rw (← whole-behind input later k whole, take-append-le k input later fits, drop-append-le k input later fits)
 
     pub opens-whole : (got : Opened) → Taken bs book text got → Opens input ended book text got
-    opens-whole (Book n) (size, none, room, same) =
+    opens-whole (Book n number) (size, one, none, room, same) =
         let (_, _, _, fits) = tell input (Whole k) whole in
         let is : n ≡ k = size ∙ length-take-le k input fits in
-        (omega arith, room, λ later. settled later ∙ rw (none, same, is))
+        (omega arith, room, λ later. settled later ∙ rw (none, same, is, one))
     opens-whole (Refused size) (some, room, same) = (room, λ later h. settled later ∙ refused-only _ _ some ∙ sym same)
     opens-whole Unopened h = absurd h
 

@@ -1,25 +1,18 @@
 -- What stands next in a part of the input settles of the lines, whatever comes later.
 -- Assumes nothing.
-use Prim.Native.Nat.{ℕ, zero, suc, _+_, _-_, _≤_, _<_}
-use mathlib.Core.Path.{_≡_, refl, sym, _∙_, ap}
+use Prim.Native.Nat.{ℕ, suc, _+_, _-_, _≤_}
+use mathlib.Core.Path.{_≡_, sym, _∙_}
 use mathlib.Core.Bool.{Bool, true, false, true≢false}
-use mathlib.Core.List.{List, [], _∷_, _++_, append-nil, append-assoc}
+use mathlib.Core.List.{List, [], _++_, append-nil}
 use native.Mathlib.Omega.{arith}
-use lib.Dec.{T}
-use lib.ListN.{length, take, drop, length-append}
-use lib.Seq.{take-append-le, drop-append-le, drop-drop, length-take-le}
-use Rattle.records.specs.Bytes.{Bytes}
-use Rattle.stream.specs.declared.Next.{Next}
+use lib.ListN.{take, drop}
+use lib.Seq.{take-append-le, drop-append-le}
 use Rattle.stream.specs.declared.Next.the-variants.{Whole, Short, Cut, End}
 use Rattle.stream.specs.Stream.{next}
 use Rattle.stream.proofs.Following.{tell, whole-behind, short-behind}
-use Rattle.lines.specs.declared.Pause.the-variants.{Full, More, Done}
-use Rattle.lines.specs.declared.masks.Step.{Step}
-use Rattle.lines.specs.declared.masks.Step.the-variants.{Line, Last, Wanting}
-use Rattle.lines.specs.Text.{Appends}
 use Rattle.lines.specs.Line.{refusedLine, maskLine}
 use Rattle.lines.specs.Output.{byNext, maskLines, linesFrom}
-use Rattle.lines.specs.Parts.{Later, Steps}
+use Rattle.lines.specs.Parts.{Later}
 
 -- ---- one mask
 

@@ -51,15 +51,15 @@ Steps bs rest ended n old at new Wanting = (new ≡ old) × (ended ≡ false) ×
 
 -- a whole record as a book, copied over the first bytes of a buffer, or the line of a refused one
 abbrev pub Taken : List ℕ → List ℕ → List ℕ → Opened → Type 0
-Taken bs book text (Book k) = (k ≡ length bs) × (bookRefusal bs ≡ 0) × (k ≤ length book) × (take k book ≡ bs)
+Taken bs book text (Book k n) = (k ≡ length bs) × (n ≡ 1) × (bookRefusal bs ≡ 0) × (k ≤ length book) × (take k book ≡ bs)
 Taken bs book text (Refused size) = (0 < bookRefusal bs) × (size ≤ length text) × (take size text ≡ bookLine (bookRefusal bs))
 Taken bs book text Unopened = ⊥
 
 -- what an input begins with, and its book, copied over the first bytes of a buffer
 abbrev pub Opens : List ℕ → Bool → List ℕ → List ℕ → Opened → Type 0
-Opens input ended book text (Book k) =
+Opens input ended book text (Book k n) =
     (k ≤ length input) × (k ≤ length book)
-    × ((later : List ℕ) → output (input ++ later) ≡ linesFrom (take k book) 1 (drop k input ++ later))
+    × ((later : List ℕ) → output (input ++ later) ≡ linesFrom (take k book) n (drop k input ++ later))
 Opens input ended book text (Refused size) =
     (size ≤ length text) × ((later : List ℕ) → Later ended later → output (input ++ later) ≡ take size text)
 Opens input ended book text Unopened = (ended ≡ false) × Unsettled (next input) × (length input < 65535)

@@ -1,7 +1,7 @@
 // The line of a mask, from narrow's answer.
-ghost use Prim.Native.Nat.{_+_, _*_, _≤_};
+ghost use Prim.Native.Nat.{_+_, _≤_};
 ghost use lib.ListN.{length};
-ghost use Rattle.records.specs.Mask.{count, maskOf};
+ghost use Rattle.records.specs.Mask.{maskOf};
 ghost use Rattle.lines.specs.Text.{Appends};
 ghost use Rattle.lines.specs.Line.{verdictLine, maskLine};
 ghost use Rattle.lines.specs.Sums.{Blocks, Recorded, Sum};

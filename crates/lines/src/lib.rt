@@ -24,9 +24,10 @@ pub struct Progress {
     pub pause: Pause,
 }
 
-// What an input begins with: a book of so many bytes, or none, with so many bytes of text, or more input is wanted.
+// What an input begins with: a book of so many bytes, with the number of the first mask; no book, with so many bytes of
+// text; or more input is wanted.
 pub enum Opened {
-    Book(usize),
+    Book { size: usize, first: u64 },
     Refused(usize),
     Unopened,
 }

@@ -14,7 +14,10 @@ fn take_book(whole: &[u8], book: &mut [u8], out: &mut [u8]) -> Opened
 {
     let got = records::read_book(whole);
     match got {
-        BookOrRefusal::Accepted(_) => Opened::Book(bytes::copy(whole, book)),
+        BookOrRefusal::Accepted(_) => {
+            let size = bytes::copy(whole, book);
+            Opened::Book { size, first: 1 }
+        }
         BookOrRefusal::Refused(refusal) => Opened::Refused(book_line(refusal, out)),
     }
 }

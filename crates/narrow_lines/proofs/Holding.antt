@@ -1,7 +1,7 @@
 -- Buffers keep their lengths, and what is held and printed lies within them.
 -- Assumes nothing.
-use Prim.Native.Nat.{ℕ, _+_, _-_, _≤_, _<_}
-use mathlib.Core.Path.{_≡_, refl, sym, _∙_}
+use Prim.Native.Nat.{ℕ, _-_, _≤_, _<_}
+use mathlib.Core.Path.{_≡_, refl, sym}
 use mathlib.Core.Bool.{Bool}
 use mathlib.Core.List.{List}
 use native.Mathlib.Omega.{arith}
@@ -32,7 +32,7 @@ module _ (a₀ b₀ c₀ a b c : List ℕ) (size : ℕ) (held : Holding a₀ b�
   -- what the input begins with lies within the buffers
   pub opened-within : (ended : Bool) (book out : List ℕ) (got : Opened) → Opens (take size a) ended book out got
       → Within got size (length book) (length out)
-  opened-within ended book out (Book k) (fits, room, _) = (omega (arith, fits, lent), room)
+  opened-within ended book out (Book k n) (fits, room, _) = (omega (arith, fits, lent), room)
   opened-within ended book out (Refused k) (room, _) = room
   opened-within ended book out Unopened _ = tt
 

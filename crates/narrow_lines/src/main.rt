@@ -44,12 +44,19 @@ fn go_on(pause: Pause, input: &mut [u8], size: usize, ended: bool) -> Held
 
 // Prints the lines of the masks, up to the end or to a write that fails. What there is to print is written before each read,
 // so that who sends a mask and waits gets its line.
-fn print_masks(book: &[u8], input: &mut [u8], held: Held, answer: &mut [u8], out: &mut [u8])
+fn print_masks(
+    book: &[u8],
+    first: u64,
+    input: &mut [u8],
+    held: Held,
+    answer: &mut [u8],
+    out: &mut [u8],
+)
     requires { ⌜ (held .size ≤ length (now input)) × (65536 ≤ length (now input)) × (12294 ≤ length (now answer)) ⌝ }
 {
     let mut size = held.size;
     let mut ended = held.ended;
-    let mut number = 1;
+    let mut number = first;
     let mut turns = u64::MAX;
     while 0 < turns {
         let Progress {
@@ -122,15 +129,10 @@ fn print_lines(input: &mut [u8], book: &mut [u8], answer: &mut [u8], out: &mut [
         ended,
     } = begin(input, book, out);
     match opened {
-        Opened::Book(taken) => {
+        Opened::Book { size: taken, first } => {
             let left = stream::shift(input, taken, size);
-            print_masks(
-                &book[..taken],
-                input,
-                Held { size: left, ended },
-                answer,
-                out,
-            );
+            let held = Held { size: left, ended };
+            print_masks(&book[..taken], first, input, held, answer, out);
         }
         Opened::Refused(printed) => {
             io::write_all(STDOUT_FILENO, &out[..printed]);

@@ -1,15 +1,10 @@
 -- `narrow_lines::begin` meets its contract. Assumes nothing.
-use mathlib.Core.Path.{sym, _∙_}
+use mathlib.Core.Path.{_∙_}
 use native.Mathlib.Omega.{arith}
-use lib.Seq.{length-take-le}
 use borrow.Author.Needs.{needs}
 use Rattle.narrow_lines.proofs.Holding.{Holding, holding, lent, opened-within, unopened-room}
 use Rattle.narrow_lines.proofs.begin.Statement.{statement}
 use Rattle.narrow_lines.proofs.begin.Tie as tie
-use Rattle.narrow_lines.proofs.begin.Reads as reads
-use Rattle.narrow_lines.proofs.begin.Lts as lts
-use Rattle.lines.proofs.open.Reads as open-reads
-use Rattle.narrow_lines.proofs.read_more.Reads as read-more-reads
 
 abbrev Inv-loop : tie.InvT-loop
 Inv-loop input₀ book₀ out₀ size₀ ended₀ turns₀ input book out size ended turns = Holding input₀ book₀ out₀ input book out size
@@ -17,19 +12,15 @@ Inv-loop input₀ book₀ out₀ size₀ ended₀ turns₀ input book out size e
 abbrev μ-loop : tie.MeasureT-loop
 μ-loop input₀ book₀ out₀ size₀ ended₀ turns₀ input book out size ended turns = turns
 
--- src/main.rt:93:5
 loop-holds : tie.Need-loop-holds Inv-loop μ-loop
 loop-holds c = holding _ _ _ _ (omega arith)
 
--- src/main.rt:94:31
 slice-reshare-prefix-open : tie.Need-slice-reshare-prefix-open Inv-loop μ-loop
 slice-reshare-prefix-open c = c .before .loop .inv .within
 
--- src/main.rt:94:31
 slice-aggregate-open : tie.Need-slice-aggregate-open Inv-loop μ-loop
 slice-aggregate-open c = lent _ _ _ _ _ _ _ (c .before .before .loop .inv)
 
--- src/main.rt:94:13
 open-requires : tie.Need-open-requires Inv-loop μ-loop
 open-requires c κs =
     let held = c .before .before .before .before .loop .inv in
@@ -38,38 +29,30 @@ open-requires c κs =
 enum-told : tie.Need-enum-told Inv-loop μ-loop
 enum-told c = search needs
 
--- src/main.rt:96:13
 same-length : tie.Need-same-length Inv-loop μ-loop
 same-length c = c .before .before .before .before .before .before .before .before .before .before .loop .inv .first
 
--- src/main.rt:96:13
 same-length-2 : tie.Need-same-length-2 Inv-loop μ-loop
 same-length-2 c = c .before .before .before .before .book .given ∙ c .before .before .before .before .before .before .before .before .before .before .loop .inv .second
 
--- src/main.rt:96:13
 same-length-3 : tie.Need-same-length-3 Inv-loop μ-loop
 same-length-3 c = c .before .before .out .given ∙ c .before .before .before .before .before .before .before .before .before .before .loop .inv .third
 
--- src/main.rt:96:13
 returns : tie.Need-returns Inv-loop μ-loop
 returns c =
     let held = c .before .before .before .before .before .before .before .before .before .before .loop .inv in
     (held .within, opened-within _ _ _ _ _ _ _ held (c .before .before .before .before .before .before .before .before .before .before .loop .ended) (c .before .before .before .before .before .«open» .last .1 .1 .0) (c .before .before .before .before .before .«open» .last .1 .1 .1 .0) (c .before .before .before .before .before .«open» .result) (c .before .before .before .before .before .open .ensures))
 
--- src/main.rt:102:13
 read-more-requires : tie.Need-read-more-requires Inv-loop μ-loop
 read-more-requires c κs =
     unopened-room _ _ _ _ _ _ _ (c .before .before .before .before .before .before .before .before .before .before .before .before .loop .inv) _ _ _ _ (c .before .before .before .before .before .before .before .before .before .before .before .before .before .before .before .before .pre .0) (c .before .before .before .before .before .before .before .open .ensures) (c .before .enum-told .given .1)
 
--- src/main.rt:105:9
 sub-turns : tie.Need-sub-turns Inv-loop μ-loop
 sub-turns c = omega arith
 
--- src/main.rt:93:5
 loop-less : tie.Need-loop-less Inv-loop μ-loop
 loop-less c = omega arith
 
--- src/main.rt:93:5
 loop-again : tie.Need-loop-again Inv-loop μ-loop
 loop-again c =
     let held = c .before .before .before .before .before .before .before .before .before .before .before .before .before .before .before .loop .inv in
@@ -80,19 +63,15 @@ loop-again c =
       third = c .before .before .before .before .before .before .before .out .given ∙ held .third;
     }
 
--- src/main.rt:85:1
 same-length-4 : tie.Need-same-length-4 Inv-loop μ-loop
 same-length-4 c = c .before .loop .inv .first
 
--- src/main.rt:85:1
 same-length-5 : tie.Need-same-length-5 Inv-loop μ-loop
 same-length-5 c = c .before .loop .inv .second
 
--- src/main.rt:85:1
 same-length-6 : tie.Need-same-length-6 Inv-loop μ-loop
 same-length-6 c = c .before .loop .inv .third
 
--- src/main.rt:85:1
 returns-2 : tie.Need-returns-2 Inv-loop μ-loop
 returns-2 c = (c .before .loop .inv .within, tt)
 

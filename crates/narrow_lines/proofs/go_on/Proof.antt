@@ -1,39 +1,29 @@
+-- `narrow_lines::go_on` meets its contract. Assumes nothing.
 use borrow.Author.Needs.{needs}
 use Rattle.narrow_lines.proofs.go_on.Statement.{statement}
 use Rattle.narrow_lines.proofs.go_on.Tie as tie
-use Rattle.narrow_lines.proofs.go_on.Reads as reads
-use Rattle.narrow_lines.proofs.go_on.Lts as lts
-use Rattle.narrow_lines.proofs.read_more.Reads as read-more-reads
 
--- src/main.rt:38:34
 enum-told : tie.Need-enum-told
 enum-told c = search needs
 
--- src/main.rt:38:24
 read-more-requires : tie.Need-read-more-requires
 read-more-requires c κs = c .before .before .before .before .pre .1 (c .before .enum-told .given .1)
 
--- src/main.rt:39:24
 enum-told-2 : tie.Need-enum-told-2
 enum-told-2 c = search needs
 
--- src/main.rt:40:24
 enum-told-3 : tie.Need-enum-told-3
 enum-told-3 c = search needs
 
--- src/main.rt:33:1
 same-length : tie.Need-same-length
 same-length c = search needs
 
--- src/main.rt:33:1
 returns : tie.Need-returns
 returns c = search needs
 
--- src/main.rt:33:1
 returns-2 : tie.Need-returns-2
 returns-2 c = search needs
 
--- src/main.rt:33:1
 returns-3 : tie.Need-returns-3
 returns-3 c = search needs
 

@@ -4,111 +4,82 @@ use lib.Seq.{length-take-le}
 use borrow.Author.Needs.{needs}
 use Rattle.narrow_lines.proofs.print_lines.Statement.{statement}
 use Rattle.narrow_lines.proofs.print_lines.Tie as tie
-use Rattle.narrow_lines.proofs.print_lines.Reads as reads
-use Rattle.narrow_lines.proofs.print_lines.Lts as lts
-use Rattle.io.proofs.write_all.Reads as write-all-reads
-use Rattle.narrow_lines.proofs.begin.Reads as begin-reads
-use Rattle.narrow_lines.proofs.print_masks.Reads as print-masks-reads
-use Rattle.stream.proofs.shift.Reads as shift-reads
 
--- src/main.rt:123:9
 begin-requires : tie.Need-begin-requires
 begin-requires c κs = search needs
 
--- src/main.rt:125:22
 enum-known-opened : tie.Need-enum-known-opened
 enum-known-opened c = search needs
 
--- src/main.rt:126:17
 shift-requires : tie.Need-shift-requires
 shift-requires c κs =
     let (fits, _) = rw (c .before .before .opened .given .1) at (c .before .before .before .before .before .before .before .before .before .before .begin .ensures .1) in
     (fits, c .before .before .before .before .before .before .before .before .before .before .begin .ensures .0)
 
--- src/main.rt:128:17
 slice-reshare-prefix-print-masks : tie.Need-slice-reshare-prefix-print-masks
 slice-reshare-prefix-print-masks c =
     let (_, room) = rw (c .before .before .before .before .before .opened .given .1) at (c .before .before .before .before .before .before .before .before .before .before .before .before .before .begin .ensures .1) in
     room
 
--- src/main.rt:128:17
 slice-aggregate-print-masks : tie.Need-slice-aggregate-print-masks
 slice-aggregate-print-masks c =
     let (_, room) = rw (c .before .before .before .before .before .before .opened .given .1) at (c .before .before .before .before .before .before .before .before .before .before .before .before .before .before .begin .ensures .1) in
     sym (length-take-le _ _ room)
 
--- src/main.rt:127:13
 print-masks-requires : tie.Need-print-masks-requires
 print-masks-requires c κs = search needs
 
--- src/main.rt:135:25
 enum-known-opened-2 : tie.Need-enum-known-opened-2
 enum-known-opened-2 c = search needs
 
--- src/main.rt:136:42
 slice-reshare-prefix-write-all : tie.Need-slice-reshare-prefix-write-all
 slice-reshare-prefix-write-all c = rw (c .before .opened2 .given .1) at (c .before .before .before .before .before .before .before .before .before .begin .ensures .1)
 
--- src/main.rt:136:42
 slice-aggregate-write-all : tie.Need-slice-aggregate-write-all
 slice-aggregate-write-all c = sym (length-take-le _ _ (rw (c .before .before .opened2 .given .1) at (c .before .before .before .before .before .before .before .before .before .before .begin .ensures .1)))
 
--- src/main.rt:136:13
 write-all-requires : tie.Need-write-all-requires
 write-all-requires c κs = search needs
 
 enum-told : tie.Need-enum-told
 enum-told c = search needs
 
--- src/main.rt:115:1
 same-length : tie.Need-same-length
 same-length c = search needs
 
--- src/main.rt:115:1
 same-length-2 : tie.Need-same-length-2
 same-length-2 c = search needs
 
--- src/main.rt:115:1
 same-length-3 : tie.Need-same-length-3
 same-length-3 c = search needs
 
--- src/main.rt:115:1
 same-length-4 : tie.Need-same-length-4
 same-length-4 c = search needs
 
--- src/main.rt:115:1
 returns : tie.Need-returns
 returns c = search needs
 
--- src/main.rt:115:1
 same-length-5 : tie.Need-same-length-5
 same-length-5 c = search needs
 
--- src/main.rt:115:1
 same-length-6 : tie.Need-same-length-6
 same-length-6 c = search needs
 
--- src/main.rt:115:1
 same-length-7 : tie.Need-same-length-7
 same-length-7 c = search needs
 
--- src/main.rt:115:1
 returns-2 : tie.Need-returns-2
 returns-2 c = search needs
 
--- src/main.rt:115:1
 same-length-8 : tie.Need-same-length-8
 same-length-8 c = search needs
 
--- src/main.rt:115:1
 same-length-9 : tie.Need-same-length-9
 same-length-9 c = search needs
 
--- src/main.rt:115:1
 same-length-10 : tie.Need-same-length-10
 same-length-10 c = search needs
 
--- src/main.rt:115:1
 returns-3 : tie.Need-returns-3
 returns-3 c = search needs
 

@@ -6,102 +6,75 @@ use borrow.Author.Needs.{needs}
 use Rattle.narrow_lines.proofs.Holding.{Holding, holding, lent, taken-within, left-room}
 use Rattle.narrow_lines.proofs.print_masks.Statement.{statement}
 use Rattle.narrow_lines.proofs.print_masks.Tie as tie
-use Rattle.narrow_lines.proofs.print_masks.Reads as reads
-use Rattle.narrow_lines.proofs.print_masks.Lts as lts
-use Rattle.io.proofs.write_all.Reads as write-all-reads
-use Rattle.lines.proofs.run.Reads as run-reads
-use Rattle.narrow_lines.proofs.go_on.Reads as go-on-reads
-use Rattle.stream.proofs.shift.Reads as shift-reads
 
 abbrev Inv-loop : tie.InvT-loop
-Inv-loop book input₀ answer₀ out₀ size₀ ended₀ number₀ turns₀ input answer out size ended number turns =
+Inv-loop book first input₀ answer₀ out₀ size₀ ended₀ number₀ turns₀ input answer out size ended number turns =
     Holding input₀ answer₀ out₀ input answer out size
 
 abbrev μ-loop : tie.MeasureT-loop
-μ-loop book input₀ answer₀ out₀ size₀ ended₀ number₀ turns₀ input answer out size ended number turns = turns
+μ-loop book first input₀ answer₀ out₀ size₀ ended₀ number₀ turns₀ input answer out size ended number turns = turns
 
--- src/main.rt:53:5
 loop-holds : tie.Need-loop-holds Inv-loop μ-loop
 loop-holds c = holding _ _ _ _ (omega arith)
 
--- src/main.rt:59:30
 slice-reshare-prefix-run : tie.Need-slice-reshare-prefix-run Inv-loop μ-loop
 slice-reshare-prefix-run c = c .before .loop .inv .within
 
--- src/main.rt:59:30
 slice-aggregate-run : tie.Need-slice-aggregate-run Inv-loop μ-loop
 slice-aggregate-run c = lent _ _ _ _ _ _ _ (c .before .before .loop .inv)
 
--- src/main.rt:59:13
 run-requires : tie.Need-run-requires Inv-loop μ-loop
 run-requires c κs = omega (arith, c .before .before .before .before .before .before .before .before .before .pre .2, c .before .before .before .before .loop .inv .second)
 
--- src/main.rt:60:42
 slice-reshare-prefix-write-all : tie.Need-slice-reshare-prefix-write-all Inv-loop μ-loop
 slice-reshare-prefix-write-all c = c .before .before .before .before .run .ensures .size
 
--- src/main.rt:60:42
 slice-aggregate-write-all : tie.Need-slice-aggregate-write-all Inv-loop μ-loop
 slice-aggregate-write-all c = sym (length-take-le _ _ (c .before .before .before .before .before .run .ensures .size))
 
--- src/main.rt:60:13
 write-all-requires : tie.Need-write-all-requires Inv-loop μ-loop
 write-all-requires c κs = search needs
 
--- src/main.rt:61:13
 same-length : tie.Need-same-length Inv-loop μ-loop
 same-length c = c .before .before .before .before .before .before .before .before .before .before .before .before .loop .inv .first
 
--- src/main.rt:61:13
 same-length-2 : tie.Need-same-length-2 Inv-loop μ-loop
 same-length-2 c = c .before .before .before .before .before .before .answer .given ∙ c .before .before .before .before .before .before .before .before .before .before .before .before .loop .inv .second
 
--- src/main.rt:61:13
 same-length-3 : tie.Need-same-length-3 Inv-loop μ-loop
 same-length-3 c = c .before .before .before .before .out .given ∙ c .before .before .before .before .before .before .before .before .before .before .before .before .loop .inv .third
 
--- src/main.rt:61:13
 returns : tie.Need-returns Inv-loop μ-loop
 returns c = search needs
 
--- src/main.rt:64:13
 enum-told : tie.Need-enum-told Inv-loop μ-loop
 enum-told c = search needs
 
--- src/main.rt:64:13
 same-length-4 : tie.Need-same-length-4 Inv-loop μ-loop
 same-length-4 c = c .before .before .before .before .before .before .before .before .before .before .before .before .before .before .loop .inv .first
 
--- src/main.rt:64:13
 same-length-5 : tie.Need-same-length-5 Inv-loop μ-loop
 same-length-5 c = c .before .before .before .before .before .before .before .before .answer .given ∙ c .before .before .before .before .before .before .before .before .before .before .before .before .before .before .loop .inv .second
 
--- src/main.rt:64:13
 same-length-6 : tie.Need-same-length-6 Inv-loop μ-loop
 same-length-6 c = c .before .before .before .before .before .before .out .given ∙ c .before .before .before .before .before .before .before .before .before .before .before .before .before .before .loop .inv .third
 
--- src/main.rt:64:13
 returns-2 : tie.Need-returns-2 Inv-loop μ-loop
 returns-2 c = search needs
 
--- src/main.rt:66:13
 shift-requires : tie.Need-shift-requires Inv-loop μ-loop
 shift-requires c κs = (taken-within _ _ _ _ _ _ _ (c .before .before .before .before .before .before .before .before .before .before .before .before .before .before .loop .inv) _ _ _ _ _ (c .before .before .before .before .before .before .before .before .before .run .ensures), c .before .before .before .before .before .before .before .before .before .before .before .before .before .before .loop .inv .within)
 
--- src/main.rt:67:13
 go-on-requires : tie.Need-go-on-requires Inv-loop μ-loop
 go-on-requires c κs =
     left-room _ _ _ _ _ _ _ (c .before .before .before .before .before .before .before .before .before .before .before .before .before .before .before .before .before .before .loop .inv) _ _ _ _ _ (c .before .before .before .before .before .before .before .before .before .before .before .before .before .run .ensures) _ _ (c .before .before .before .before .before .before .before .before .before .before .before .before .before .before .before .before .before .before .before .before .before .before .before .pre .1) (c .before .before .before .shift .ensures .0) (c .before .before .input .given)
 
--- src/main.rt:71:9
 sub-turns : tie.Need-sub-turns Inv-loop μ-loop
 sub-turns c = omega arith
 
--- src/main.rt:53:5
 loop-less : tie.Need-loop-less Inv-loop μ-loop
 loop-less c = omega arith
 
--- src/main.rt:53:5
 loop-again : tie.Need-loop-again Inv-loop μ-loop
 loop-again c =
     let held = c .before .before .before .before .before .before .before .before .before .before .before .before .before .before .before .before .before .before .before .before .before .loop .inv in
@@ -112,19 +85,15 @@ loop-again c =
       third = c .before .before .before .before .before .before .before .before .before .before .before .before .before .out .given ∙ held .third;
     }
 
--- src/main.rt:46:1
 same-length-7 : tie.Need-same-length-7 Inv-loop μ-loop
 same-length-7 c = c .before .loop .inv .first
 
--- src/main.rt:46:1
 same-length-8 : tie.Need-same-length-8 Inv-loop μ-loop
 same-length-8 c = c .before .loop .inv .second
 
--- src/main.rt:46:1
 same-length-9 : tie.Need-same-length-9 Inv-loop μ-loop
 same-length-9 c = c .before .loop .inv .third
 
--- src/main.rt:46:1
 returns-3 : tie.Need-returns-3 Inv-loop μ-loop
 returns-3 c = search needs
 

@@ -5,8 +5,6 @@ use native.Mathlib.Omega.{arith}
 use Rattle.stream.proofs.Shifting.{Shifting, nothing-taken, shifting-starts, shifting-more, shifting-ends}
 use Rattle.stream.proofs.shift.Statement.{statement}
 use Rattle.stream.proofs.shift.Tie as tie
-use Rattle.stream.proofs.shift.Reads as reads
-use Rattle.stream.proofs.shift.Lts as lts
 
 abbrev Inv-loop : tie.InvT-loop
 Inv-loop bytes₀ taken held left i₀ bytes i = Shifting taken left bytes₀ bytes i
@@ -14,47 +12,36 @@ Inv-loop bytes₀ taken held left i₀ bytes i = Shifting taken left bytes₀ by
 abbrev μ-loop : tie.MeasureT-loop
 μ-loop bytes₀ taken held left i₀ bytes i = left - i
 
--- src/lib.rt:41:9
 returns : tie.Need-returns Inv-loop μ-loop
 returns c = nothing-taken _ _ _ (c .if1 .taken)
 
--- src/lib.rt:43:16
 sub-left : tie.Need-sub-left Inv-loop μ-loop
 sub-left c = omega arith
 
--- src/lib.rt:45:5
 loop-holds : tie.Need-loop-holds Inv-loop μ-loop
 loop-holds c = shifting-starts _ _ _
 
--- src/lib.rt:46:26
 add-bytes : tie.Need-add-bytes Inv-loop μ-loop
 add-bytes c = omega arith
 
--- src/lib.rt:46:20
 slice-read-bytes : tie.Need-slice-read-bytes Inv-loop μ-loop
 slice-read-bytes c = omega (arith, c .before .before .loop .inv .same)
 
--- src/lib.rt:46:9
 slice-write-bytes : tie.Need-slice-write-bytes Inv-loop μ-loop
 slice-write-bytes c = omega (arith, c .before .before .loop .inv .same)
 
--- src/lib.rt:47:9
 add-i : tie.Need-add-i Inv-loop μ-loop
 add-i c = omega arith
 
--- src/lib.rt:45:5
 loop-less : tie.Need-loop-less Inv-loop μ-loop
 loop-less c = omega arith
 
--- src/lib.rt:45:5
 loop-again : tie.Need-loop-again Inv-loop μ-loop
 loop-again c = shifting-more _ _ _ _ _ (c .before .before .loop .inv) (omega arith) (omega arith)
 
--- src/lib.rt:36:1
 same-length : tie.Need-same-length Inv-loop μ-loop
 same-length c = c .before .loop .inv .same
 
--- src/lib.rt:36:1
 returns-2 : tie.Need-returns-2 Inv-loop μ-loop
 returns-2 c = (refl, shifting-ends _ _ _ _ _ (c .before .loop .inv) (c .before .before .before .args .held) (omega arith) (omega arith) (omega arith))
 

@@ -4,9 +4,6 @@ use native.Mathlib.Omega.{arith}
 use Rattle.lines.proofs.Summing.{Summing, summing-starts, summing-more, summing-ends}
 use Rattle.lines.proofs.answer.sum_bounds.Statement.{statement}
 use Rattle.lines.proofs.answer.sum_bounds.Tie as tie
-use Rattle.lines.proofs.answer.sum_bounds.Reads as reads
-use Rattle.lines.proofs.answer.sum_bounds.Lts as lts
-use Rattle.records.proofs.read_block.Reads as read-block-reads
 
 abbrev Inv-loop : tie.InvT-loop
 Inv-loop written blocks lowers₀ uppers₀ i₀ lowers uppers i = Summing written i lowers uppers
@@ -14,46 +11,36 @@ Inv-loop written blocks lowers₀ uppers₀ i₀ lowers uppers i = Summing writt
 abbrev μ-loop : tie.MeasureT-loop
 μ-loop written blocks lowers₀ uppers₀ i₀ lowers uppers i = blocks - i
 
--- src/answer.rt:27:5
 loop-holds : tie.Need-loop-holds Inv-loop μ-loop
 loop-holds c = summing-starts _
 
--- src/answer.rt:28:13
 read-block-requires : tie.Need-read-block-requires Inv-loop μ-loop
 read-block-requires c κs =
     let blocks = c .before .before .before .pre in
     (omega (arith, blocks .counted), omega (arith, blocks .counted, blocks .whole))
 
--- src/answer.rt:29:19
 cast-lowers : tie.Need-cast-lowers Inv-loop μ-loop
 cast-lowers c = omega arith
 
--- src/answer.rt:29:9
 add-lowers : tie.Need-add-lowers Inv-loop μ-loop
 add-lowers c = omega (arith, c .before .before .before .loop .inv .small .0, c .before .before .before .before .before .pre .few)
 
--- src/answer.rt:30:19
 cast-uppers : tie.Need-cast-uppers Inv-loop μ-loop
 cast-uppers c = omega arith
 
--- src/answer.rt:30:9
 add-uppers : tie.Need-add-uppers Inv-loop μ-loop
 add-uppers c = omega (arith, c .before .before .before .before .loop .inv .small .1, c .before .before .before .before .before .before .pre .few)
 
--- src/answer.rt:31:9
 add-i : tie.Need-add-i Inv-loop μ-loop
 add-i c = omega (arith, c .before .before .before .before .before .before .pre .few)
 
--- src/answer.rt:27:5
 loop-less : tie.Need-loop-less Inv-loop μ-loop
 loop-less c = omega arith
 
--- src/answer.rt:27:5
 loop-again : tie.Need-loop-again Inv-loop μ-loop
 loop-again c =
     summing-more _ _ _ _ _ (c .before .before .before .before .before .before .pre) (c .before .before .before .before .loop .inv) _ (c .before .before .read-block .ensures) (omega arith) (omega arith) (omega arith)
 
--- src/answer.rt:20:1
 returns : tie.Need-returns Inv-loop μ-loop
 returns c = summing-ends _ _ _ _ _ (c .before .before .before .pre) (c .before .loop .inv) (omega arith)
 

@@ -1,40 +1,30 @@
+-- `lines::line::book_line` meets its contract. Assumes nothing.
 use native.Mathlib.Omega.{arith}
 use borrow.Author.Needs.{needs}
 use Rattle.lines.proofs.Appending.{then, next-few}
 use Rattle.lines.proofs.line.book_line.Statement.{statement}
 use Rattle.lines.proofs.line.book_line.Tie as tie
-use Rattle.lines.proofs.line.book_line.Reads as reads
-use Rattle.lines.proofs.line.book_line.Lts as lts
-use Rattle.lines.proofs.line.put_next.Reads as put-next-reads
-use Rattle.lines.proofs.text.put.Reads as put-reads
 
--- src/line.rt:77:18
 slice-aggregate-put : tie.Need-slice-aggregate-put
 slice-aggregate-put c = search needs
 
--- src/line.rt:77:9
 put-requires : tie.Need-put-requires
 put-requires c κs = search needs
 
--- src/line.rt:78:9
 put-next-requires : tie.Need-put-next-requires
 put-next-requires c κs = search needs
 
--- src/line.rt:79:9
 slice-aggregate-put-2 : tie.Need-slice-aggregate-put-2
 slice-aggregate-put-2 c = search needs
 
--- src/line.rt:79:5
 put-requires-2 : tie.Need-put-requires-2
 put-requires-2 c κs =
     let start = c .before .before .before .before .before .before .before .before .before .before .before .before in
     omega (arith, start .pre, c .before .before .before .before .before .before .before .before .put .ensures .size, c .before .before .before .before .put-next .ensures .size, next-few (start .args .refusal), c .before .before .before .before .before .before .before .out .given, c .before .before .before .out2 .given)
 
--- src/line.rt:73:1
 same-length : tie.Need-same-length
 same-length c = search needs
 
--- src/line.rt:73:1
 returns : tie.Need-returns
 returns c =
     let two = then _ _ _ _ _ _ _ _ (c .before .before .before .before .before .before .before .before .before .before .before .put .ensures) (c .before .before .before .before .before .before .before .put-next .ensures) in

@@ -1,29 +1,21 @@
+-- `lines::line::put_next` meets its contract. Assumes nothing.
 use borrow.Author.Needs.{needs}
 use Rattle.lines.proofs.Appending.{then}
 use Rattle.lines.proofs.line.put_next.Statement.{statement}
 use Rattle.lines.proofs.line.put_next.Tie as tie
-use Rattle.lines.proofs.line.put_next.Reads as reads
-use Rattle.lines.proofs.line.put_next.Lts as lts
-use Rattle.lines.proofs.text.put.Reads as put-reads
-use Rattle.lines.proofs.text.put_decimal.Reads as put-decimal-reads
 
--- src/line.rt:16:18
 slice-aggregate-put : tie.Need-slice-aggregate-put
 slice-aggregate-put c = search needs
 
--- src/line.rt:16:9
 put-requires : tie.Need-put-requires
 put-requires c κs = search needs
 
--- src/line.rt:17:5
 put-decimal-requires : tie.Need-put-decimal-requires
 put-decimal-requires c κs = search needs
 
--- src/line.rt:12:1
 same-length : tie.Need-same-length
 same-length c = search needs
 
--- src/line.rt:12:1
 returns : tie.Need-returns
 returns c = then _ _ _ _ _ _ _ _ (c .before .before .before .before .before .before .put .ensures) (c .before .before .put-decimal .ensures)
 

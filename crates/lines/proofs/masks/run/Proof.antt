@@ -6,9 +6,6 @@ use borrow.Author.Needs.{needs}
 use Rattle.lines.proofs.Running.{Running, running-starts, running-within, running-more, running-last, running-wants, running-done, running-full}
 use Rattle.lines.proofs.masks.run.Statement.{statement}
 use Rattle.lines.proofs.masks.run.Tie as tie
-use Rattle.lines.proofs.masks.run.Reads as reads
-use Rattle.lines.proofs.masks.run.Lts as lts
-use Rattle.lines.proofs.masks.add_mask.Reads as add-mask-reads
 
 abbrev Inv-loop : tie.InvT-loop
 Inv-loop book input ended first answer₀ out₀ taken₀ size₀ number₀ answer out taken size number =
@@ -17,106 +14,81 @@ Inv-loop book input ended first answer₀ out₀ taken₀ size₀ number₀ answ
 abbrev μ-loop : tie.MeasureT-loop
 μ-loop book input ended first answer₀ out₀ taken₀ size₀ number₀ answer out taken size number = 4294967296 - number
 
--- src/masks.rt:71:5
 loop-holds : tie.Need-loop-holds Inv-loop μ-loop
 loop-holds c = running-starts _ _ _ _ _ _
 
--- src/masks.rt:71:17
 sub-loop : tie.Need-sub-loop Inv-loop μ-loop
 sub-loop c = c .loop .inv .filled
 
--- src/masks.rt:73:13
 same-length : tie.Need-same-length Inv-loop μ-loop
 same-length c = c .before .before .loop .inv .answer-same
 
--- src/masks.rt:73:13
 same-length-2 : tie.Need-same-length-2 Inv-loop μ-loop
 same-length-2 c = c .before .before .loop .inv .out-same
 
--- src/masks.rt:73:13
 returns : tie.Need-returns Inv-loop μ-loop
 returns c = running-done _ _ _ _ _ _ _ _ _ _ _ (c .before .before .loop .inv) (omega arith)
 
--- src/masks.rt:80:34
 sub-add-mask : tie.Need-sub-add-mask Inv-loop μ-loop
 sub-add-mask c = omega (arith, c .before .before .loop .inv .within)
 
--- src/masks.rt:80:34
 part-add-mask-start : tie.Need-part-add-mask-start Inv-loop μ-loop
 part-add-mask-start c = omega (arith, c .before .before .loop .inv .within)
 
--- src/masks.rt:80:34
 part-add-mask-end : tie.Need-part-add-mask-end Inv-loop μ-loop
 part-add-mask-end c = omega arith
 
--- src/masks.rt:80:13
 add-mask-requires : tie.Need-add-mask-requires Inv-loop μ-loop
 add-mask-requires c κs =
     let inv = c .before .before .before .before .before .loop .inv in
     (omega arith, omega (arith, c .before .before .before .before .before .before .before .before .before .before .pre, inv .answer-same), omega (arith, inv .filled))
 
--- src/masks.rt:83:24
 enum-known-got : tie.Need-enum-known-got Inv-loop μ-loop
 enum-known-got c = search needs
 
--- src/masks.rt:86:17
 add-taken : tie.Need-add-taken Inv-loop μ-loop
 add-taken c = omega (arith, running-within _ _ _ _ _ _ _ _ _ _ _ (c .before .before .before .before .before .before .before .before .before .before .before .before .before .loop .inv) _ _ (c .before .before .before .before .before .before .before .add-mask .ensures) _ _ (c .before .got .given .1))
 
--- src/masks.rt:88:17
 add-number : tie.Need-add-number Inv-loop μ-loop
 add-number c = omega arith
 
--- src/masks.rt:71:5
 loop-less : tie.Need-loop-less Inv-loop μ-loop
 loop-less c = omega arith
 
--- src/masks.rt:71:5
 loop-again : tie.Need-loop-again Inv-loop μ-loop
 loop-again c =
     running-more _ _ _ _ _ _ _ _ _ _ _ (c .before .before .before .before .before .before .before .before .before .before .before .before .before .loop .inv) _ _ (c .before .before .before .before .before .before .before .add-mask .ensures) _ _ _ (c .before .got .given .1) (c .before .before .before .before .before .before .answer .given) (c .before .before .before .before .out .given)
 
--- src/masks.rt:90:24
 enum-known-got-2 : tie.Need-enum-known-got-2 Inv-loop μ-loop
 enum-known-got-2 c = search needs
 
--- src/masks.rt:91:17
 same-length-3 : tie.Need-same-length-3 Inv-loop μ-loop
 same-length-3 c = c .before .before .before .before .before .before .answer .given ∙ c .before .before .before .before .before .before .before .before .before .before .before .before .before .loop .inv .answer-same
 
--- src/masks.rt:91:17
 same-length-4 : tie.Need-same-length-4 Inv-loop μ-loop
 same-length-4 c = c .before .before .before .before .out .given ∙ c .before .before .before .before .before .before .before .before .before .before .before .before .before .loop .inv .out-same
 
--- src/masks.rt:91:17
 returns-2 : tie.Need-returns-2 Inv-loop μ-loop
 returns-2 c = running-last _ _ _ _ _ _ _ _ _ _ _ (c .before .before .before .before .before .before .before .before .before .before .before .before .before .loop .inv) _ _ (c .before .before .before .before .before .before .before .add-mask .ensures) _ (c .before .got2 .given .1)
 
--- src/masks.rt:103:28
 enum-told : tie.Need-enum-told Inv-loop μ-loop
 enum-told c = search needs
 
--- src/masks.rt:99:17
 same-length-5 : tie.Need-same-length-5 Inv-loop μ-loop
 same-length-5 c = c .before .before .before .before .before .answer .given ∙ c .before .before .before .before .before .before .before .before .before .before .before .before .loop .inv .answer-same
 
--- src/masks.rt:99:17
 same-length-6 : tie.Need-same-length-6 Inv-loop μ-loop
 same-length-6 c = c .before .before .before .out .given ∙ c .before .before .before .before .before .before .before .before .before .before .before .before .loop .inv .out-same
 
--- src/masks.rt:99:17
 returns-3 : tie.Need-returns-3 Inv-loop μ-loop
 returns-3 c = running-wants _ _ _ _ _ _ _ _ _ _ _ (c .before .before .before .before .before .before .before .before .before .before .before .before .loop .inv) _ _ (c .before .before .before .before .before .before .add-mask .ensures) (c .enum-told .given .1)
 
--- src/masks.rt:57:1
 same-length-7 : tie.Need-same-length-7 Inv-loop μ-loop
 same-length-7 c = c .before .loop .inv .answer-same
 
--- src/masks.rt:57:1
 same-length-8 : tie.Need-same-length-8 Inv-loop μ-loop
 same-length-8 c = c .before .loop .inv .out-same
 
--- src/masks.rt:57:1
 returns-4 : tie.Need-returns-4 Inv-loop μ-loop
 returns-4 c = running-full _ _ _ _ _ _ _ _ _ _ _ (c .before .loop .inv) (omega arith)
 

@@ -1,3 +1,4 @@
+-- `lines::opening::open` meets its contract. Assumes nothing.
 use mathlib.Core.Path.{sym, _∙_}
 use mathlib.Core.List.{[]}
 use native.Mathlib.Omega.{arith}
@@ -8,103 +9,77 @@ use Rattle.stream.proofs.Following.{tell, cut-open, end-open}
 use Rattle.lines.proofs.Openings.{put-first, opens-whole, opens-short, opens-cut, opens-end}
 use Rattle.lines.proofs.opening.open.Statement.{statement}
 use Rattle.lines.proofs.opening.open.Tie as tie
-use Rattle.lines.proofs.opening.open.Reads as reads
-use Rattle.lines.proofs.opening.open.Lts as lts
-use Rattle.lines.proofs.line.book_line.Reads as book-line-reads
-use Rattle.lines.proofs.opening.take_book.Reads as take-book-reads
-use Rattle.stream.proofs.next_record.Reads as next-record-reads
 
--- src/opening.rt:28:9
 next-record-requires : tie.Need-next-record-requires
 next-record-requires c κs = search needs
 
--- src/opening.rt:30:21
 enum-known-got : tie.Need-enum-known-got
 enum-known-got c = search needs
 
--- src/opening.rt:30:40
 slice-aggregate-take-book : tie.Need-slice-aggregate-take-book
 slice-aggregate-take-book c =
     let (_, _, _, fits) = tell _ _ (sym (c .before .before .got .given .1) ∙ c .before .before .before .before .next-record .ensures) in
     sym (length-take-le _ _ fits)
 
--- src/opening.rt:30:30
 take-book-requires : tie.Need-take-book-requires
 take-book-requires c κs = search needs
 
--- src/opening.rt:31:53
 enum-told : tie.Need-enum-told
 enum-told c = search needs
 
--- src/opening.rt:31:40
 book-line-requires : tie.Need-book-line-requires
 book-line-requires c κs = search needs
 
--- src/opening.rt:33:16
 enum-told-2 : tie.Need-enum-told-2
 enum-told-2 c = search needs
 
--- src/opening.rt:34:17
 returns : tie.Need-returns
 returns c =
     let (unsettled, few) = cut-open _ (λ i. omega (arith, c .before .before .before .before .before .before .shared-slice-known .given i)) (sym (c .before .enum-told2 .given .1) ∙ c .before .before .before .next-record .ensures) in
     (not-true _ (c .if1 .taken), unsettled, few)
 
--- src/opening.rt:36:29
 book-line-requires-2 : tie.Need-book-line-requires-2
 book-line-requires-2 c κs = search needs
 
--- src/opening.rt:39:16
 enum-told-3 : tie.Need-enum-told-3
 enum-told-3 c = search needs
 
--- src/opening.rt:40:17
 returns-2 : tie.Need-returns-2
 returns-2 c =
     let (unsettled, few) = end-open _ (sym (c .before .enum-told3 .given .1) ∙ c .before .before .before .next-record .ensures) in
     (not-true _ (c .if2 .taken), unsettled, few)
 
--- src/opening.rt:42:29
 book-line-requires-3 : tie.Need-book-line-requires-3
 book-line-requires-3 c κs = search needs
 
--- src/opening.rt:24:1
 same-length : tie.Need-same-length
 same-length c = search needs
 
--- src/opening.rt:24:1
 same-length-2 : tie.Need-same-length-2
 same-length-2 c = search needs
 
--- src/opening.rt:24:1
 returns-3 : tie.Need-returns-3
 returns-3 c = opens-whole _ (c .before .before .before .before .before .before .before .before .before .before .before .before .before .before .before .args .ended) (c .before .before .before .before .take-book .last .1 .0) (c .before .before .before .before .take-book .last .1 .1 .0) _ (sym (c .before .before .before .before .before .before .before .before .before .got .given .1) ∙ c .before .before .before .before .before .before .before .before .before .before .before .next-record .ensures) (c .before .before .before .before .take-book .result) (c .before .before .before .before .take-book .ensures)
 
--- src/opening.rt:24:1
 same-length-3 : tie.Need-same-length-3
 same-length-3 c = search needs
 
--- src/opening.rt:24:1
 returns-4 : tie.Need-returns-4
 returns-4 c =
     let (room, same) = put-first _ _ _ _ (c .before .before .book-line .ensures) in
     opens-short _ (c .before .before .before .before .before .before .before .before .before .before .args .ended) [] _ _ room same (sym (c .before .before .before .before .enum-told .given .1) ∙ c .before .before .before .before .before .before .next-record .ensures)
 
--- src/opening.rt:24:1
 same-length-4 : tie.Need-same-length-4
 same-length-4 c = search needs
 
--- src/opening.rt:24:1
 returns-5 : tie.Need-returns-5
 returns-5 c =
     let (room, same) = put-first _ _ _ _ (c .before .before .book-line2 .ensures) in
     opens-cut _ _ [] _ _ room same (not-false (c .before .before .before .before .before .before .before .before .before .before .before .args .ended) (c .before .before .before .before .if1 .left)) (sym (c .before .before .before .before .before .enum-told2 .given .1) ∙ c .before .before .before .before .before .before .before .next-record .ensures)
 
--- src/opening.rt:24:1
 same-length-5 : tie.Need-same-length-5
 same-length-5 c = search needs
 
--- src/opening.rt:24:1
 returns-6 : tie.Need-returns-6
 returns-6 c =
     let (room, same) = put-first _ _ _ _ (c .before .before .book-line3 .ensures) in

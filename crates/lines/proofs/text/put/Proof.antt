@@ -1,37 +1,28 @@
+-- `lines::text::put` meets its contract. Assumes nothing.
 use native.Mathlib.Omega.{arith}
 use borrow.Author.Needs.{needs}
 use Rattle.lines.proofs.Appending.{put-behind}
 use Rattle.lines.proofs.text.put.Statement.{statement}
 use Rattle.lines.proofs.text.put.Tie as tie
-use Rattle.lines.proofs.text.put.Reads as reads
-use Rattle.lines.proofs.text.put.Lts as lts
-use Rattle.bytes.proofs.copy.Reads as copy-reads
 
--- src/text.rt:11:34
 sub-copy : tie.Need-sub-copy
 sub-copy c = search needs
 
--- src/text.rt:11:34
 part-copy-start : tie.Need-part-copy-start
 part-copy-start c = search needs
 
--- src/text.rt:11:34
 part-copy-end : tie.Need-part-copy-end
 part-copy-end c = search needs
 
--- src/text.rt:11:9
 copy-requires : tie.Need-copy-requires
 copy-requires c κs = search needs
 
--- src/text.rt:12:5
 add-result : tie.Need-add-result
 add-result c = search needs
 
--- src/text.rt:7:1
 same-length : tie.Need-same-length
 same-length c = search needs
 
--- src/text.rt:7:1
 returns : tie.Need-returns
 returns c = put-behind _ _ _ _ _ _ _ (omega arith) (c .before .before .copy .ensures .0) (c .before .before .copy .ensures .1)
 
