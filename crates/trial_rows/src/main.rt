@@ -9,8 +9,8 @@
 // A part is bytes in hex; a book may be one of 01's, `A`, `B` or `C`. An empty line and a line that starts with `#` are none.
 
 mod books;
+mod calls;
 mod masks;
-mod operations;
 mod parts;
 
 use case_text::case;
@@ -77,18 +77,18 @@ fn run_command(case: &[u8], first: &[u8], second: &[u8], third: &[u8]) {
     let command = &case[0..end];
     let mut out = [0xEEu8; 12300];
     if check::same(command, b"narrow") {
-        operations::narrow(parts::number(case, 1), first, second, &mut out);
+        calls::narrow(parts::number(case, 1), first, second, &mut out);
     } else if check::same(command, b"tidy") {
-        operations::tidy(parts::number(case, 1), first, &mut out);
+        calls::tidy(parts::number(case, 1), first, &mut out);
     } else if check::same(command, b"place") {
-        operations::place(
+        calls::place(
             parts::number(case, 1),
             parts::number(case, 2),
             first,
             second,
         );
     } else if check::same(command, b"try") {
-        operations::try_word(first, second, third);
+        calls::try_word(first, second, third);
     } else {
         show::unreadable();
     }
