@@ -12,7 +12,7 @@ use Rattle.records.specs.Check.{refuse, some, unframed}
 use Rattle.records.specs.Book.{bookHead, movesOf, outOfRange, unnamed, bookChecks}
 use Rattle.records.specs.Mask.{blockFrom, blocksFrom, maskOf, maskRefusal, foreign}
 use Rattle.records.specs.Written.{blockBytes, blocksBytes, headBytes, maskBytes}
-use Rattle.fekhvina.specs.Pair.{pairRefusal}
+use Rattle.operations.specs.Pair.{pairRefusal}
 use Rattle.stream.specs.Stream as stream
 use Rattle.lines.specs.Text.{digits}
 use Rattle.lines.specs.Line.{maskLine}

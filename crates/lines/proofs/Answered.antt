@@ -20,13 +20,13 @@ use Rattle.records.specs.Written.{maskBytes}
 use Rattle.records.proofs.Offsets.{blocks-counted}
 use Rattle.records.proofs.Over.{take-over}
 use Rattle.records.proofs.RoundTrip.{length-mask, reads-back}
-use Rattle.fekhvina.specs.declared.NarrowAnswer.{NarrowAnswer}
-use Rattle.fekhvina.specs.declared.NarrowAnswer.the-variants.{Narrowed, Refused}
-use Rattle.fekhvina.specs.Pair.{pairRefusal}
-use Rattle.fekhvina.specs.Narrow.{written, narrowRecord, narrowRefusal, narrowOr, narrowed, narrowBuffer, narrowNumbers, Narrows}
-use Rattle.fekhvina.proofs.Order.{refused-first, passed-first}
-use Rattle.fekhvina.proofs.Pairs.{pair-room}
-use Rattle.fekhvina.proofs.Narrowed.{narrow-suffices}
+use Rattle.operations.specs.declared.NarrowAnswer.{NarrowAnswer}
+use Rattle.operations.specs.declared.NarrowAnswer.the-variants.{Narrowed, Refused}
+use Rattle.operations.specs.Pair.{pairRefusal}
+use Rattle.operations.specs.Narrow.{written, narrowRecord, narrowRefusal, narrowOr, narrowed, narrowBuffer, narrowNumbers, Narrows}
+use Rattle.operations.proofs.Order.{refused-first, passed-first}
+use Rattle.operations.proofs.Pairs.{pair-room}
+use Rattle.operations.proofs.Narrowed.{narrow-suffices}
 use Rattle.lines.specs.Line.{refusedLine, blocksWritten, verdictLine, lineOr, maskLine}
 use Rattle.lines.specs.Sums.{Recorded}
 

@@ -9,8 +9,9 @@ use native.Mathlib.Omega.{arith}
 use lib.ListN.{length, take, drop, length-append}
 use lib.Seq.{take-append-le, drop-append-le, length-take-le, take-append-seam, take-length}
 use Rattle.records.specs.declared.Book as records
+use Rattle.records.specs.declared.BookOrRefusal.{BookOrRefusal}
 use Rattle.records.specs.declared.BookOrRefusal.the-variants as bookAnswer
-use Rattle.records.specs.Book.{bookHead, bookRefusal, readBook}
+use Rattle.records.specs.Book.{bookHead, bookRefusal, readBook, bookNumber}
 use Rattle.records.proofs.Answers.{book-accepted, book-refused}
 use Rattle.records.proofs.WellFormed.{book-record}
 use Rattle.stream.specs.declared.Next.the-variants.{Whole, Short, Cut, End}
@@ -52,12 +53,13 @@ taken-book bs old new text b k e room is copied =
     )
 
 -- a refused one, and its line
-pub taken-refused : (bs old new book : List ℕ) (n size : ℕ) → readBook bs ≡ bookAnswer.Refused n → Appends (bookLine n) old 0 new size
-    → Taken bs book new (Refused size)
-taken-refused bs old new book n size e put =
-    let (is, some) = book-refused bs n e in
+pub taken-refused : (bs old new book : List ℕ) (got : BookOrRefusal) (n r size : ℕ) → got ≡ readBook bs → got ≡ bookAnswer.Refused n
+    → r ≡ bookNumber got → Appends (bookLine r) old 0 new size → Taken bs book new (Refused size)
+taken-refused bs old new book got n r size read e number put =
+    let (is, some) = book-refused bs n (sym read ∙ e) in
     let (room, same) = put-first _ old new size put in
-    (omega (arith, is, some), room, rw is same)
+    let named : r ≡ n = number ∙ rw e in
+    (omega (arith, is, some), room, rw (is, ← named) same)
 
 -- ---- what an input begins with
 

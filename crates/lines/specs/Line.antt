@@ -9,7 +9,7 @@ use Rattle.model.specs.Verdict.{verdict, narrowedMask}
 use Rattle.model.specs.Size.{lowerSum, uppers}
 use Rattle.records.specs.Book.{bookOf}
 use Rattle.records.specs.Mask.{maskOf}
-use Rattle.fekhvina.specs.Pair.{pairRefusal}
+use Rattle.operations.specs.Pair.{pairRefusal}
 use Rattle.lines.specs.Text.{ascii, decimal}
 
 -- the word of a verdict

@@ -6,7 +6,7 @@ use mathlib.Core.List.{List, [], _∷_, _++_}
 use lib.ListN.{take}
 use Rattle.model.specs.DashedString.{block}
 use Rattle.records.specs.Written.{maskBytes}
-use Rattle.fekhvina.specs.Samples.{A, B, C, upToTwo}
+use Rattle.operations.specs.Samples.{A, B, C, upToTwo}
 use Rattle.lines.specs.Text.{ascii}
 use Rattle.lines.specs.Output.{output}
 

@@ -7,8 +7,8 @@ ghost use Rattle.lines.specs.Line.{verdictLine, maskLine};
 ghost use Rattle.lines.specs.Sums.{Blocks, Recorded, Sum};
 use crate::line::refused_line;
 use crate::line::verdict_line;
-use fekhvina::NarrowAnswer;
 use model::Verdict;
+use operations::NarrowAnswer;
 
 // The sum of the lower and the sum of the upper bounds.
 pub(crate) struct Sums {
@@ -66,7 +66,7 @@ pub(crate) fn mask_line(
     requires { ⌜ (12294 ≤ length (now answer)) × (at + 92 ≤ length (now out)) ⌝ }
     ensures { λ r. ⌜ Appends (maskLine (now (book .entry)) number (now (mask .entry))) (now (out .entry)) at (now (out .exit)) r ⌝ }
 {
-    let got = fekhvina::narrow(book, mask, answer);
+    let got = operations::narrow(book, mask, answer);
     match got {
         NarrowAnswer::Refused(refusal) => refused_line(number, refusal, out, at),
         NarrowAnswer::Narrowed { verdict, bytes } => {

@@ -13,13 +13,11 @@ fn take_book(whole: &[u8], book: &mut [u8], out: &mut [u8]) -> Opened
     ensures { λ r. ⌜ Taken (now (whole .entry)) (now (book .exit)) (now (out .exit)) r ⌝ }
 {
     let got = records::read_book(whole);
-    match got {
-        BookOrRefusal::Accepted(_) => {
-            let size = bytes::copy(whole, book);
-            Opened::Book { size, first: 1 }
-        }
-        BookOrRefusal::Refused(refusal) => Opened::Refused(book_line(refusal, out)),
-    }
+    let BookOrRefusal::Accepted(_) = got else {
+        return Opened::Refused(book_line(records::book_number(got), out));
+    };
+    let size = bytes::copy(whole, book);
+    Opened::Book { size, first: 1 }
 }
 
 // Copies the book that `input` begins with over the first bytes of `book`, or puts the line of a refused one at the start of

@@ -16,7 +16,6 @@ use model::Verdict;
 use narrowing::narrow_large;
 use narrowing::narrow_small;
 use pair::PairOrRefusal;
-use pair::mask_number;
 use pair::pair_number;
 use pair::read_pair;
 use placing::missing;
@@ -68,7 +67,7 @@ pub fn tidy(mask: &[u8], out: &mut [u8]) -> TidyAnswer
 {
     let got = records::read_mask(mask);
     let MaskOrRefusal::Accepted(head) = got else {
-        return TidyAnswer::Refused(mask_number(got));
+        return TidyAnswer::Refused(records::mask_number(got));
     };
     let mut bases = [0u64; 1024];
     let mut lowers = [0u16; 1024];

@@ -1,7 +1,5 @@
 // A book and a mask taken together: the checks that three of the operations begin with.
 ghost use mathlib.Core.Path.{_≡_};
-ghost use Rattle.records.specs.Book.{bookNumber};
-ghost use Rattle.records.specs.Mask.{maskNumber};
 ghost use Rattle.operations.specs.Pair.{readPair, pairNumber};
 use records::Book;
 use records::BookOrRefusal;
@@ -20,37 +18,17 @@ pub(crate) enum PairOrRefusal {
     Refused(u32),
 }
 
-// The refusal number of a book's answer, 0 for none.
-pub(crate) fn book_number(got: BookOrRefusal) -> u32
-    ensures { λ r. ⌜ r ≡ bookNumber got ⌝ }
-{
-    match got {
-        BookOrRefusal::Accepted(_) => 0,
-        BookOrRefusal::Refused(number) => number,
-    }
-}
-
-// The refusal number of a mask's answer, 0 for none.
-pub(crate) fn mask_number(got: MaskOrRefusal) -> u32
-    ensures { λ r. ⌜ r ≡ maskNumber got ⌝ }
-{
-    match got {
-        MaskOrRefusal::Accepted(_) => 0,
-        MaskOrRefusal::Refused(number) => number,
-    }
-}
-
 // A book and a mask, or the number of the first check that fails: book checks, mask checks, 9.
 pub(crate) fn read_pair(book: &[u8], mask: &[u8]) -> PairOrRefusal
     ensures { λ r. ⌜ r ≡ readPair (now (book .entry)) (now (mask .entry)) ⌝ }
 {
     let got_book = records::read_book(book);
     let BookOrRefusal::Accepted(b) = got_book else {
-        return PairOrRefusal::Refused(book_number(got_book));
+        return PairOrRefusal::Refused(records::book_number(got_book));
     };
     let got_mask = records::read_mask(mask);
     let MaskOrRefusal::Accepted(m) = got_mask else {
-        return PairOrRefusal::Refused(mask_number(got_mask));
+        return PairOrRefusal::Refused(records::mask_number(got_mask));
     };
     if records::some_foreign(mask, m.blocks, b.letters) {
         return PairOrRefusal::Refused(9);

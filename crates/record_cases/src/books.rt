@@ -5,19 +5,11 @@ ghost use lib.ListN.{length};
 use case_text::show;
 use records::BookOrRefusal;
 
-// Writes the refusal of a book.
-fn refusal(got: BookOrRefusal) {
-    if let BookOrRefusal::Refused(n) = got {
-        show::refused(n);
-    }
-}
-
 // Writes the numbers of a book, or its refusal.
 pub fn book(bytes: &[u8]) {
     let got = records::read_book(bytes);
     let BookOrRefusal::Accepted(book) = got else {
-        refusal(got);
-        return;
+        return show::refused(records::book_number(got));
     };
     show::text(b"book");
     show::next_number(book.states as u64);
@@ -30,8 +22,7 @@ pub fn book(bytes: &[u8]) {
 pub fn moves(bytes: &[u8]) {
     let got = records::read_book(bytes);
     let BookOrRefusal::Accepted(book) = got else {
-        refusal(got);
-        return;
+        return show::refused(records::book_number(got));
     };
     next_states(book.states, book.letters, &bytes[15..]);
 }

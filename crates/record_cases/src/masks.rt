@@ -5,19 +5,11 @@ use case_text::show;
 use model::Block;
 use records::MaskOrRefusal;
 
-// Writes the refusal of a mask.
-fn refusal(got: MaskOrRefusal) {
-    if let MaskOrRefusal::Refused(n) = got {
-        show::refused(n);
-    }
-}
-
 // Writes the numbers of a mask, its blocks where they are few, and whether it comes back as it was; or its refusal.
 pub fn mask(bytes: &[u8]) {
     let got = records::read_mask(bytes);
     let MaskOrRefusal::Accepted(mask) = got else {
-        refusal(got);
-        return;
+        return show::refused(records::mask_number(got));
     };
     show::text(b"mask");
     show::next_number(mask.blocks as u64);
@@ -40,8 +32,7 @@ pub fn letters(bytes: &[u8]) {
     let mask_bytes = &bytes[1..];
     let got = records::read_mask(mask_bytes);
     let MaskOrRefusal::Accepted(mask) = got else {
-        refusal(got);
-        return;
+        return show::refused(records::mask_number(got));
     };
     if records::some_foreign(mask_bytes, mask.blocks, bytes[0] as usize) {
         show::text(b"9");

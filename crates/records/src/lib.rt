@@ -6,8 +6,8 @@ ghost use lib.ListN.{length};
 ghost use Rattle.model.specs.DashedString.{blockAt};
 ghost use Rattle.model.specs.Automaton.{next};
 ghost use Rattle.records.specs.Bytes.{over};
-ghost use Rattle.records.specs.Book.{tableOf, readBook};
-ghost use Rattle.records.specs.Mask.{count, maskOf, readMask, foreign};
+ghost use Rattle.records.specs.Book.{tableOf, readBook, bookNumber};
+ghost use Rattle.records.specs.Mask.{count, maskOf, readMask, maskNumber, foreign};
 ghost use Rattle.records.specs.Written.{maskBytes, blocksOf, Enough};
 
 mod automaton;
@@ -103,6 +103,26 @@ pub fn read_mask(bytes: &[u8]) -> MaskOrRefusal
         return MaskOrRefusal::Refused(8);
     }
     MaskOrRefusal::Accepted(Mask { blocks, uppers })
+}
+
+// The refusal number of a book's answer, 0 for none.
+pub fn book_number(got: BookOrRefusal) -> u32
+    ensures { λ r. ⌜ r ≡ bookNumber got ⌝ }
+{
+    match got {
+        BookOrRefusal::Accepted(_) => 0,
+        BookOrRefusal::Refused(number) => number,
+    }
+}
+
+// The refusal number of a mask's answer, 0 for none.
+pub fn mask_number(got: MaskOrRefusal) -> u32
+    ensures { λ r. ⌜ r ≡ maskNumber got ⌝ }
+{
+    match got {
+        MaskOrRefusal::Accepted(_) => 0,
+        MaskOrRefusal::Refused(number) => number,
+    }
 }
 
 // The state that state `q` moves to by letter `c`: `states`, the dead state, where the move names none.

@@ -14,13 +14,11 @@ read-book-requires c κs = search needs
 enum-told : tie.Need-enum-told
 enum-told c = search needs
 
-copy-requires : tie.Need-copy-requires
-copy-requires c κs =
-    let (none, _) = book-accepted _ _ (sym (c .before .before .before .read-book .ensures) ∙ c .before .enum-told .given .1) in
-    omega (arith, book-few _ none, c .before .before .before .before .before .before .before .pre .0)
+enum-told-2 : tie.Need-enum-told-2
+enum-told-2 c = search needs
 
-enum-known-got : tie.Need-enum-known-got
-enum-known-got c = search needs
+book-number-requires : tie.Need-book-number-requires
+book-number-requires c κs = search needs
 
 book-line-requires : tie.Need-book-line-requires
 book-line-requires c κs = search needs
@@ -29,16 +27,21 @@ same-length : tie.Need-same-length
 same-length c = search needs
 
 returns : tie.Need-returns
-returns c =
-    let accepted = sym (c .before .before .before .before .before .before .read-book .ensures) ∙ c .before .before .before .before .enum-told .given .1 in
-    let (none, _) = book-accepted _ _ accepted in
-    taken-book _ _ _ [] _ _ accepted (omega (arith, book-few _ none, c .before .before .before .before .before .before .before .before .before .before .pre .0)) (c .before .before .copy .ensures .0) (c .before .before .copy .ensures .1)
+returns c = taken-refused _ _ _ [] _ _ _ _ (c .before .before .before .before .before .before .before .read-book .ensures) (c .before .before .before .before .before .enum-told2 .given .1) (c .before .before .before .before .book-number .ensures) (c .before .before .book-line .ensures)
+
+copy-requires : tie.Need-copy-requires
+copy-requires c κs =
+    let (none, _) = book-accepted _ _ (sym (c .before .before .before .read-book .ensures) ∙ c .before .enum-told .given .1) in
+    omega (arith, book-few _ none, c .before .before .before .before .before .before .before .pre .0)
 
 same-length-2 : tie.Need-same-length-2
 same-length-2 c = search needs
 
 returns-2 : tie.Need-returns-2
-returns-2 c = taken-refused _ _ _ [] _ _ (sym (c .before .before .before .before .before .before .before .read-book .ensures) ∙ c .before .before .before .before .before .got .given .1) (c .before .before .book-line .ensures)
+returns-2 c =
+    let accepted = sym (c .before .before .before .before .before .before .read-book .ensures) ∙ c .before .before .before .before .enum-told .given .1 in
+    let (none, _) = book-accepted _ _ accepted in
+    taken-book _ _ _ [] _ _ accepted (omega (arith, book-few _ none, c .before .before .before .before .before .before .before .before .before .before .pre .0)) (c .before .before .copy .ensures .0) (c .before .before .copy .ensures .1)
 
 pub take-book-spec : {M : Type 1} → statement M
 take-book-spec =
@@ -46,10 +49,11 @@ take-book-spec =
     (tie.spec
     read-book-requires
     enum-told
-    copy-requires
-    enum-known-got
+    enum-told-2
+    book-number-requires
     book-line-requires
     same-length
     returns
+    copy-requires
     same-length-2
     returns-2)

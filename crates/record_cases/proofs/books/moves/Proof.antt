@@ -20,8 +20,11 @@ enum-known-got c = search needs
 enum-told : tie.Need-enum-told
 enum-told c = search needs
 
-refusal-requires : tie.Need-refusal-requires
-refusal-requires c κs = search needs
+book-number-requires : tie.Need-book-number-requires
+book-number-requires c κs = search needs
+
+refused-requires : tie.Need-refused-requires
+refused-requires c κs = search needs
 
 returns : tie.Need-returns
 returns c = search needs
@@ -48,7 +51,8 @@ moves-spec =
     read-book-requires
     enum-known-got
     enum-told
-    refusal-requires
+    book-number-requires
+    refused-requires
     returns
     sub-next-states
     part-next-states-start

@@ -30,8 +30,11 @@ enum-known-got c = search needs
 enum-told : tie.Need-enum-told
 enum-told c = search needs
 
-refusal-requires : tie.Need-refusal-requires
-refusal-requires c κs = search needs
+mask-number-requires : tie.Need-mask-number-requires
+mask-number-requires c κs = search needs
+
+refused-requires : tie.Need-refused-requires
+refused-requires c κs = search needs
 
 returns-2 : tie.Need-returns-2
 returns-2 c = search needs
@@ -77,7 +80,8 @@ letters-spec =
     read-mask-requires
     enum-known-got
     enum-told
-    refusal-requires
+    mask-number-requires
+    refused-requires
     returns-2
     shared-slice-read-some-foreign
     cast-some-foreign

@@ -19,8 +19,11 @@ enum-known-got c = search needs
 enum-told : tie.Need-enum-told
 enum-told c = search needs
 
-refusal-requires : tie.Need-refusal-requires
-refusal-requires c κs = search needs
+mask-number-requires : tie.Need-mask-number-requires
+mask-number-requires c κs = search needs
+
+refused-requires : tie.Need-refused-requires
+refused-requires c κs = search needs
 
 returns : tie.Need-returns
 returns c = search needs
@@ -68,7 +71,8 @@ mask-spec =
     read-mask-requires
     enum-known-got
     enum-told
-    refusal-requires
+    mask-number-requires
+    refused-requires
     returns
     slice-aggregate-text
     text-requires
