@@ -1,18 +1,18 @@
 -- Buffers keep their lengths, and what is held and printed lies within them.
 -- Assumes nothing.
-use Prim.Native.Nat.{ℕ, _-_, _≤_, _<_}
+use Prim.Native.Nat.{ℕ, _+_, _-_, _≤_, _<_}
 use mathlib.Core.Path.{_≡_, refl, sym}
 use mathlib.Core.Bool.{Bool}
-use mathlib.Core.List.{List}
+use mathlib.Core.List.{List, _++_}
 use native.Mathlib.Omega.{arith}
-use lib.ListN.{length, take}
-use lib.Seq.{length-take-le}
+use lib.ListN.{length, take, drop, length-append, length-take, length-drop}
+use lib.Seq.{length-take-le, take-at}
 use Rattle.lines.specs.declared.Pause.the-variants.{More}
 use Rattle.lines.specs.declared.Progress.{Progress}
 use Rattle.lines.specs.declared.Opened.{Opened}
 use Rattle.lines.specs.declared.Opened.the-variants.{Book, Refused, Unopened}
 use Rattle.lines.specs.Parts.{Advances, Opens}
-use Rattle.narrow_lines.specs.Begun.{Within}
+use Rattle.narrow_lines.specs.Begun.{Keeps, Within}
 
 -- a loop that holds so many bytes of the first of three buffers
 pub record Holding (a₀ b₀ c₀ a b c : List ℕ) (size : ℕ) : Type 0 where
@@ -55,3 +55,15 @@ module _ (a₀ b₀ c₀ a b c : List ℕ) (size : ℕ) (held : Holding a₀ b�
       omega (arith, e, same, held .within),
       λ p. let (_, _, few) = done .more p in omega (arith, few, e, same, lent, held .first, taken-within),
     )
+
+-- bytes read into the part behind those held, as the part is lent and comes back
+pub read-behind : (old part behind : List ℕ) (size more : ℕ) → size ≤ length old
+    → let new = take size old ++ (part ++ behind) in more ≤ length (take (length new - size) (drop size new)) → Keeps old size new (size + more)
+read-behind old part behind size more h l =
+    let new = take size old ++ (part ++ behind) in
+    let front = length-take-le size old h in
+    record {
+      grows = omega arith;
+      within = omega (arith, l, front, length-take (length new - size) (drop size new), length-drop size new, length-append (take size old) (part ++ behind));
+      kept = take-at (take size old) (part ++ behind) size front;
+    }

@@ -3,7 +3,7 @@
 ghost use mathlib.Core.Path.{_≡_};
 ghost use Prim.Native.Nat.{_≤_, _<_};
 ghost use lib.ListN.{length};
-ghost use Rattle.narrow_lines.specs.Begun.{Within};
+ghost use Rattle.narrow_lines.specs.Begun.{Keeps, Within};
 ghost use Rattle.lines.specs.declared.Pause.the-variants.{More};
 use libc::STDIN_FILENO;
 use libc::STDOUT_FILENO;
@@ -20,7 +20,7 @@ struct Held {
 // Reads once behind the first `size` bytes of `input`. A read that brings nothing or fails is the end of the input.
 fn read_more(input: &mut [u8], size: usize) -> Held
     requires { ⌜ size < length (now input) ⌝ }
-    ensures { λ r. ⌜ r .size ≤ length (now (input .exit)) ⌝ }
+    ensures { λ r. ⌜ Keeps (now (input .entry)) size (now (input .exit)) (r .size) ⌝ }
 {
     let got = libc::read(STDIN_FILENO, &mut input[size..]);
     let more = io::count(got, &input[size..]);
@@ -33,7 +33,7 @@ fn read_more(input: &mut [u8], size: usize) -> Held
 // Reads more where more is wanted.
 fn go_on(pause: Pause, input: &mut [u8], size: usize, ended: bool) -> Held
     requires { ⌜ (size ≤ length (now input)) × (pause ≡ More → size < length (now input)) ⌝ }
-    ensures { λ r. ⌜ r .size ≤ length (now (input .exit)) ⌝ }
+    ensures { λ r. ⌜ Keeps (now (input .entry)) size (now (input .exit)) (r .size) ⌝ }
 {
     match pause {
         Pause::More => read_more(input, size),

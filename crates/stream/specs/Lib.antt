@@ -1,2 +1,3 @@
 -- What a stream of records is (01, "The line program").
 pub mod Stream
+pub mod Samples

@@ -57,7 +57,7 @@ loop-again : tie.Need-loop-again Inv-loop μ-loop
 loop-again c =
     let held = c .before .before .before .before .before .before .before .before .before .before .before .before .before .before .before .loop .inv in
     record {
-      within = c .before .before .read-more .ensures;
+      within = c .before .before .read-more .ensures .within;
       first = c .before .input .given ∙ held .first;
       second = c .before .before .before .before .before .before .before .before .before .book .given ∙ held .second;
       third = c .before .before .before .before .before .before .before .out .given ∙ held .third;

@@ -79,7 +79,7 @@ loop-again : tie.Need-loop-again Inv-loop μ-loop
 loop-again c =
     let held = c .before .before .before .before .before .before .before .before .before .before .before .before .before .before .before .before .before .before .before .before .before .loop .inv in
     record {
-      within = c .before .before .go-on .ensures;
+      within = c .before .before .go-on .ensures .within;
       first = c .before .input2 .given ∙ c .before .before .before .before .before .input .given ∙ held .first;
       second = c .before .before .before .before .before .before .before .before .before .before .before .before .before .before .before .answer .given ∙ held .second;
       third = c .before .before .before .before .before .before .before .before .before .before .before .before .before .out .given ∙ held .third;

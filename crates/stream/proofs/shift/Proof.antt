@@ -13,7 +13,7 @@ abbrev μ-loop : tie.MeasureT-loop
 μ-loop bytes₀ taken held left i₀ bytes i = left - i
 
 returns : tie.Need-returns Inv-loop μ-loop
-returns c = nothing-taken _ _ _ (c .if1 .taken)
+returns c = nothing-taken (c .before .args .taken) _ _ (omega arith)
 
 sub-left : tie.Need-sub-left Inv-loop μ-loop
 sub-left c = omega arith
