@@ -6,3 +6,4 @@ pub mod Answered
 pub mod Stepping
 pub mod Running
 pub mod Openings
+pub mod Sessions

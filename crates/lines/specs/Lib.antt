@@ -4,4 +4,5 @@ pub mod Line
 pub mod Sums
 pub mod Output
 pub mod Parts
+pub mod Session
 pub mod Samples
