@@ -1,4 +1,5 @@
 // The lines of the masks that a part of the input holds.
+ghost use mathlib.Core.Path.{_≡_};
 ghost use Prim.Native.Nat.{_+_, _≤_};
 ghost use lib.ListN.{length};
 ghost use Rattle.lines.specs.Parts.{Advances, Steps};
@@ -51,6 +52,18 @@ pub(crate) fn add_mask(
     }
 }
 
+// How far the input was worked, and why no further.
+fn paused(taken: usize, size: usize, number: u64, pause: Pause) -> Progress
+    ensures { λ r. ⌜ r ≡ record { taken = taken; size = size; number = number; pause = pause } ⌝ }
+{
+    Progress {
+        taken,
+        size,
+        number,
+        pause,
+    }
+}
+
 // Puts the lines of the masks of `input`, from number `first` on, at the start of `out`, as far as they go: up to a buffer
 // that has no room for another line, an input of which more is wanted, or the end. `ended` says that nothing comes behind
 // the input; `answer` is room for narrow's answer.
@@ -70,12 +83,7 @@ pub fn run(
     let mut number = first;
     while 92 <= out.len() - size {
         if 4294967295 < number {
-            return Progress {
-                taken,
-                size,
-                number,
-                pause: Pause::Done,
-            };
+            return paused(taken, size, number, Pause::Done);
         }
         let got = add_mask(book, &input[taken..], ended, number, answer, out, size);
         match got {
@@ -88,27 +96,12 @@ pub fn run(
                 number += 1;
             }
             Step::Last(filled) => {
-                return Progress {
-                    taken,
-                    size: filled,
-                    number,
-                    pause: Pause::Done,
-                };
+                return paused(taken, filled, number, Pause::Done);
             }
             Step::Wanting => {
-                return Progress {
-                    taken,
-                    size,
-                    number,
-                    pause: Pause::More,
-                };
+                return paused(taken, size, number, Pause::More);
             }
         }
     }
-    Progress {
-        taken,
-        size,
-        number,
-        pause: Pause::Full,
-    }
+    paused(taken, size, number, Pause::Full)
 }
