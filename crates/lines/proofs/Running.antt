@@ -8,7 +8,6 @@ use native.Mathlib.Omega.{arith}
 use lib.ListN.{length, take, drop, length-append, length-take, length-drop}
 use lib.Seq.{drop-drop}
 use Rattle.records.proofs.Over.{part-rest}
-use Rattle.lines.specs.declared.Pause.{Pause}
 use Rattle.lines.specs.declared.Pause.the-variants.{Full, More, Done}
 use Rattle.lines.specs.declared.masks.Step.{Step}
 use Rattle.lines.specs.declared.masks.Step.the-variants.{Line, Last, Wanting}
@@ -30,12 +29,6 @@ pub running-starts : (bs input : List ℕ) (ended : Bool) (first : ℕ) (answer 
 running-starts bs input ended first answer out =
     record { within = omega arith; filled = omega arith; answer-same = refl; out-same = refl; lines = λ later h. refl }
 
--- different pauses
-code : Pause → ℕ
-code Full = 0
-code More = 1
-code Done = 2
-
 -- text that was put lies within the buffer
 pub put-within : (text old : List ℕ) (at : ℕ) (new : List ℕ) (r : ℕ) → Appends text old at new r → at ≤ length old → r ≤ length new
 put-within text old at new r put h =
@@ -46,28 +39,25 @@ module _ (bs input : List ℕ) (ended : Bool) (first : ℕ) (answer₀ out₀ an
   -- no more is read after the last number
   pub running-done : 4294967295 < number
       → Advances bs input ended first out (record { taken = taken; size = size; number = number; pause = Done })
-  unfolding maskLines code
+  unfolding maskLines
   running-done h =
       let none : 4294967296 - number ≡ 0 = omega arith in
       record {
         lines = λ later l. rw none at (running .lines later l);
         taken = running .within;
         size = running .filled;
-        full = λ e. absurd (omega (arith, ap code e));
-        more = λ e. absurd (omega (arith, ap code e));
+        why = tt;
       }
 
   -- the buffer has no room for another line
   pub running-full : length out - size < 92
       → Advances bs input ended first out (record { taken = taken; size = size; number = number; pause = Full })
-  unfolding code
   running-full h =
       record {
         lines = running .lines;
         taken = running .within;
         size = running .filled;
-        full = λ e. omega arith;
-        more = λ e. absurd (omega (arith, ap code e));
+        why = omega arith;
       }
 
   -- one mask more, over the part that is not taken
@@ -95,26 +85,22 @@ module _ (bs input : List ℕ) (ended : Bool) (first : ℕ) (answer₀ out₀ an
 
     pub running-last : (s : ℕ) → got ≡ Last s
         → Advances bs input ended first out' (record { taken = taken; size = s; number = number; pause = Done })
-    unfolding code
     running-last s e =
         let (text, put, ends) = rw (e, part-rest taken input) at steps in
         record {
           lines = λ later h. running .lines later h ∙ ap (λ l. take size out ++ l) (ends later h) ∙ rw (put .filled, append-nil);
           taken = running .within;
           size = put-within text out size out' s put (running .filled);
-          full = λ e. absurd (omega (arith, ap code e));
-          more = λ e. absurd (omega (arith, ap code e));
+          why = tt;
         }
 
     pub running-wants : got ≡ Wanting
         → Advances bs input ended first out' (record { taken = taken; size = size; number = number; pause = More })
-    unfolding code
     running-wants e =
-        let (same, goes, unsettled, few) = rw (e, part-rest taken input) at steps in
+        let (same, wants) = rw (e, part-rest taken input) at steps in
         record {
           lines = rw same (running .lines);
           taken = running .within;
           size = rw same (running .filled);
-          full = λ e. absurd (omega (arith, ap code e));
-          more = λ _. (goes, unsettled, omega (arith, few, running .within, length-drop taken input));
+          why = wants;
         }

@@ -20,7 +20,7 @@ masks-print (full ended n held later new rest r a e l m) =
     sym (a .lines later l ∙ rw (e, ← masks-print m))
 masks-print (more ended n held read later new rest r a e m) =
     sym
-    (a .lines (read ++ later) (anything ended (read ++ later) (a .more e .0))
+    (a .lines (read ++ later) (anything ended (read ++ later) (rw e at (a .why) .0))
     ∙ rw (e, ← append-assoc (drop (r .taken) held) read later, ← masks-print m))
 
 -- a whole run

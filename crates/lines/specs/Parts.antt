@@ -28,6 +28,16 @@ remaining Done lines = []
 abbrev pub Later : Bool → List ℕ → Type 0
 Later ended rest = T ended → rest ≡ []
 
+-- more is wanted: more may come, and no whole record stands next; less than the longest record is left then
+abbrev pub Wants : Bool → List ℕ → Type 0
+Wants ended rest = (ended ≡ false) × Unsettled (next rest) × (length rest < 65535)
+
+-- why the lines pause: the buffer has no room for another line, or more is wanted, or nothing more is to be printed
+abbrev pub Because : Pause → ℕ → ℕ → Bool → List ℕ → Type 0
+Because Full size room ended rest = room < size + 92
+Because More size room ended rest = Wants ended rest
+Because Done size room ended rest = Unit {0}
+
 -- the lines of a part of the input, from mask n on, as text in a buffer
 pub record Advances (bs input : List ℕ) (ended : Bool) (n : ℕ) (new : List ℕ) (r : Progress) : Type 0 where
   -- whatever comes later, the text is what is printed first, and what remains is printed for the bytes not taken and what comes later
@@ -35,10 +45,7 @@ pub record Advances (bs input : List ℕ) (ended : Bool) (n : ℕ) (new : List �
       → linesFrom bs n (input ++ later) ≡ take (r .size) new ++ remaining (r .pause) (linesFrom bs (r .number) (drop (r .taken) input ++ later))
   pub taken : r .taken ≤ length input
   pub size : r .size ≤ length new
-  -- a full buffer has no room for another line
-  pub full : r .pause ≡ Full → length new < r .size + 92
-  -- more is wanted only where more may come and no whole record stands next; less than the longest record is left then
-  pub more : r .pause ≡ More → (ended ≡ false) × Unsettled (next (drop (r .taken) input)) × (length input < r .taken + 65535)
+  pub why : Because (r .pause) (r .size) (length new) ended (drop (r .taken) input)
 
 -- what one mask adds to the text behind the first `at` bytes of a buffer
 abbrev pub Steps : List ℕ → List ℕ → Bool → ℕ → List ℕ → ℕ → List ℕ → Step → Type 0
@@ -47,7 +54,7 @@ Steps bs rest ended n old at new (Line k size) =
     × ((later : List ℕ) → linesFrom bs n (rest ++ later) ≡ text ++ linesFrom bs (n + 1) (drop k rest ++ later))
 Steps bs rest ended n old at new (Last size) =
     (text : List ℕ) × Appends text old at new size × ((later : List ℕ) → Later ended later → linesFrom bs n (rest ++ later) ≡ text)
-Steps bs rest ended n old at new Wanting = (new ≡ old) × (ended ≡ false) × Unsettled (next rest) × (length rest < 65535)
+Steps bs rest ended n old at new Wanting = (new ≡ old) × Wants ended rest
 
 -- a whole record as a book, copied over the first bytes of a buffer, or the line of a refused one
 abbrev pub Taken : List ℕ → List ℕ → List ℕ → Opened → Type 0
@@ -62,4 +69,4 @@ Opens input ended book text (Book k n) =
     × ((later : List ℕ) → output (input ++ later) ≡ linesFrom (take k book) n (drop k input ++ later))
 Opens input ended book text (Refused size) =
     (size ≤ length text) × ((later : List ℕ) → Later ended later → output (input ++ later) ≡ take size text)
-Opens input ended book text Unopened = (ended ≡ false) × Unsettled (next input) × (length input < 65535)
+Opens input ended book text Unopened = Wants ended input

@@ -53,7 +53,7 @@ module _ (a₀ b₀ c₀ a b c : List ℕ) (size : ℕ) (held : Holding a₀ b�
         → (left ≤ room) × (r .pause ≡ More → left < room)
     left-room left room h e same = (
       omega (arith, e, same, held .within),
-      λ p. let (_, _, few) = done .more p in omega (arith, few, e, same, lent, held .first, taken-within),
+      λ p. let (_, _, few) = rw p at (done .why) in omega (arith, few, e, same, lent, held .first, length-drop (r .taken) (take size a)),
     )
 
 -- bytes read into the part behind those held, as the part is lent and comes back

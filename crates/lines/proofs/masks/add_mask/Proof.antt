@@ -36,7 +36,7 @@ enum-told-2 c = search needs
 returns : tie.Need-returns
 returns c =
     let (unsettled, few) = cut-open _ (λ i. omega (arith, c .before .before .before .before .before .before .shared-slice-known2 .given i)) (sym (c .before .enum-told2 .given .1) ∙ c .before .before .before .next-record .ensures) in
-    (refl, not-true _ (c .if1 .taken), unsettled, few)
+    (refl, (not-true _ (c .if1 .taken), unsettled, few))
 
 refused-line-requires-2 : tie.Need-refused-line-requires-2
 refused-line-requires-2 c κs = search needs
@@ -47,7 +47,7 @@ enum-told-3 c = search needs
 returns-2 : tie.Need-returns-2
 returns-2 c =
     let (unsettled, few) = end-open _ (sym (c .before .enum-told3 .given .1) ∙ c .before .before .before .next-record .ensures) in
-    (refl, not-true _ (c .if2 .taken), unsettled, few)
+    (refl, (not-true _ (c .if2 .taken), unsettled, few))
 
 same-length : tie.Need-same-length
 same-length c = search needs
