@@ -21,4 +21,4 @@ use Rattle.lines.specs.Samples.{AllHold, samples}
 
 pub all-samples : AllHold samples
 unfolding has someBelow unionBelow someFrom oneMember next reach after before between rounds first fewest forward backward pruned final kept entries finals narrowedList narrowedMask single every someLegal someIllegal verdict dropped join joined normal lowerSum numberAt bytesOf refuse some unframed bookHead movesOf outOfRange unnamed bookChecks blockFrom blocksFrom maskOf maskRefusal foreign blockBytes blocksBytes headBytes maskBytes pairRefusal stream.next digits maskLine maskLines output samples
-all-samples = (refl, (refl, (refl, (refl, (refl, (refl, (refl, (refl, (refl, (refl, (refl, (refl, tt))))))))))))
+all-samples = (refl, (refl, (refl, (refl, (refl, (refl, (refl, (refl, (refl, (refl, (refl, (refl, (refl, tt)))))))))))))
