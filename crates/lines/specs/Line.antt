@@ -1,6 +1,6 @@
 -- The line of a mask, and of a refused book (01, "The line program").
 use Prim.Native.Nat.{ℕ, zero, suc}
-use mathlib.Core.List.{List, [], _++_}
+use mathlib.Core.List.{List, _++_}
 use lib.ListN.{length}
 use Rattle.model.specs.declared.Block.{Block}
 use Rattle.model.specs.declared.Verdict.{Verdict}
@@ -10,6 +10,7 @@ use Rattle.model.specs.Size.{lowerSum, uppers}
 use Rattle.records.specs.Book.{bookOf}
 use Rattle.records.specs.Mask.{maskOf}
 use Rattle.operations.specs.Pair.{pairRefusal}
+use Rattle.operations.specs.Narrow.{written}
 use Rattle.lines.specs.Text.{ascii, decimal}
 
 -- the word of a verdict
@@ -35,13 +36,6 @@ line n w a b c = decimal n ++ (ascii " " ++ w) ++ numbers a b c
 abbrev pub refusedLine : ℕ → ℕ → List ℕ
 refusedLine n r = line n (ascii "refused") r 0 0
 
--- the blocks written: for none there are none
-abbrev pub blocksWritten : Verdict → List Block → List Block
-blocksWritten None xs = []
-blocksWritten All xs = xs
-blocksWritten One xs = xs
-blocksWritten Some xs = xs
-
 -- the verdict, the blocks written, the sum of their lower and the sum of their upper bounds
 abbrev pub verdictLine : ℕ → Verdict → List Block → List ℕ
 verdictLine n v xs = line n (word v) (length xs) (lowerSum xs) (uppers xs)
@@ -51,11 +45,11 @@ abbrev pub lineOr : ℕ → List ℕ → ℕ → List ℕ
 lineOr n answered zero = answered
 lineOr n answered (suc r) = refusedLine n (suc r)
 
--- the line of mask n
+-- the line of mask n: its refusal, or its verdict and the blocks written
 unfoldable pub maskLine : List ℕ → ℕ → List ℕ → List ℕ
 maskLine bs n ms =
     let b = bookOf bs in let xs = maskOf ms in let v = verdict b xs in
-    lineOr n (verdictLine n v (blocksWritten v (narrowedMask b xs))) (pairRefusal bs ms)
+    lineOr n (verdictLine n v (written v (narrowedMask b xs))) (pairRefusal bs ms)
 
 -- a refused book: `book refused` and the number
 abbrev pub bookLine : ℕ → List ℕ

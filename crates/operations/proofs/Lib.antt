@@ -7,6 +7,7 @@ pub mod Putting
 pub mod Passing
 pub mod Judging
 pub mod Narrowed
+pub mod Told
 pub mod EntryNumbers
 pub mod Placed
 pub mod Tidying

@@ -21,12 +21,12 @@ use Rattle.operations.specs.Order.{andThen}
 use Rattle.operations.specs.Pair.{pairRefusal}
 use Rattle.operations.specs.Buffer.{unlessRefused}
 
--- for none nothing is written, else the record
-abbrev pub written : Verdict → List ℕ → List ℕ
-written None bytes = []
-written All bytes = bytes
-written One bytes = bytes
-written Some bytes = bytes
+-- for none nothing is written, else all of it
+abbrev pub written : {A : Type 0} → Verdict → List A → List A
+written None xs = []
+written All xs = xs
+written One xs = xs
+written Some xs = xs
 
 -- what narrow writes: the narrowed mask, or nothing
 unfoldable pub narrowRecord : List ℕ → List ℕ → List ℕ
