@@ -8,13 +8,14 @@ use native.Mathlib.Nat.{one-mul, pow-suc, le-div-iff-mul-le, lt-of-not-le, mod-s
 use native.Mathlib.Omega.{arith}
 use borrow.Author.Tests.{eq-eqb, eqb-true, eqb-false}
 use lib.Arith.{bin-ind}
-use lib.Bits.{bitAnd, bitXor, differ, and-step, xor-step, and-self, and-mask, and-shr, xor-shr, and-lt, and-le-l, xor-lt, xor-add-and}
+use lib.Bits.{bitAnd, bitXor, differ, and-step, xor-step, and-self, and-mask, and-shr, xor-shr, and-lt, and-le-l, xor-lt}
 use lib.Count.{trailingZeros, under}
 use lib.Dec.{T, T-not, eqb, leb, ltb, eqb→eq, eqb-refl, eqb·suc-zero, ltb→lt, leb→le, le→leb}
 use lib.Pow.{pow-pos, pow-mono, shr-shr}
 use Rattle.model.specs.Set.{has, Member, both, either, someMember, someFrom, oneMember}
 use Rattle.model.proofs.Set.{T-and, digits, has-half, some-below, member, in-none, in-one, one-in, in-both, in-either, in-members, members-bytes, some-member}
 use Rattle.bitset.specs.Difference.{difference}
+use Rattle.bitset.specs.First.{First}
 
 -- tests that pass in the same cases are equal
 pub same-test : (a b : Bool) → (T a ↔ T b) → a ≡ b
@@ -113,9 +114,23 @@ trailing-bit (suc k) s h l = go (s % 2) refl (λ p. trailing-bit k (s / 2) p (om
     go zero e next = let (a, b) = next (omega arith) in (omega arith, rw has-half b)
     go (suc r) e next = (omega arith, has-first s .1 (omega arith))
 
--- the number of them is a member
-pub least-in : (s : ℕ) → s < 2 ^ 64 → 0 < s → Member (trailingZeros 64 s) s
-least-in s l h = let (a, b) = trailing-bit 64 s h l in member a b
+-- no bit is lower
+trailing-least : (k s j : ℕ) → T (has s j) → trailingZeros k s ≤ j
+unfolding trailingZeros
+trailing-least zero s j h = omega arith
+trailing-least (suc k) s j h = go (s % 2) refl (trailing-least k (s / 2)) j h
+  where
+    go : (r : ℕ) → s % 2 ≡ r → ((j : ℕ) → T (has (s / 2) j) → trailingZeros k (s / 2) ≤ j) → (j : ℕ) → T (has s j)
+        → under r (trailingZeros k (s / 2)) ≤ j
+    go zero e next zero h = absurd (omega (arith, has-first s .0 h))
+    go zero e next (suc j) h = omega (arith, next j (rw has-half at h))
+    go (suc r) e next j h = omega arith
+
+-- the number of them is the least member
+pub trailing-first : (s : ℕ) → s < 2 ^ 64 → 0 < s → First (trailingZeros 64 s) s
+trailing-first s l h =
+    let (a, b) = trailing-bit 64 s h l in
+    record { member = member a b; least = λ j m. trailing-least 64 s j (m .there) }
 
 -- ---- what is in one set and not in another
 
@@ -161,32 +176,7 @@ difference-test s t a b =
 pub difference-is : (s t r : ℕ) → s < 2 ^ 64 → t < 2 ^ 64 → r ≡ both s t → bitXor s r ≡ difference s t
 difference-is s t r a b e = rw e (difference-test s t a b)
 
--- without a member it is a smaller number
-pub difference-less : (s i : ℕ) → s < 2 ^ 64 → Member i s → difference s (2 ^ i) < s
-difference-less s i l m =
-    let small : 2 ^ i < 2 ^ 64 = omega (arith, has-le s i (m .there)) in
-    let t = both s (2 ^ i) in
-    let bytes = and-lt 64 s (2 ^ i) l small in
-    let again : both s t ≡ t = same-members (both s t) t (and-lt 64 s t l bytes) bytes (λ j. (
-      λ h. in-both s t .0 h .1,
-      λ h. in-both s t .1 (in-both s (2 ^ i) .0 h .0, h),
-    )) in
-    let there : ¬ (t ≡ 0) = λ e. in-none (rw e at (in-both s (2 ^ i) .1 (m, one-in (m .small)))) in
-    rw (← difference-test s (2 ^ i) l small) (omega (arith, xor-add-and s t, again, there))
-
--- the set without a member, where that member's bit is given by an equation
-pub without-is : (s i b r : ℕ) → s < 2 ^ 64 → Member i s → b ≡ 2 ^ i → r ≡ difference s b → (r ≡ difference s (2 ^ i)) × (r < s)
-without-is s i b r l m e d = rw (d, e) (refl, difference-less s i l m)
-
--- ---- members from k on
-
--- some member is k or above
-pub some-from : (s k : ℕ) → T (someFrom s k) ↔ ((i : ℕ) × Member i s × (k ≤ i))
-unfolding someFrom
-some-from s k = (
-  λ h. let (i, m, l) = some-member s (leb k) .0 h in (i, m, leb→le k i l),
-  λ (i, m, l). some-member s (leb k) .1 (i, m, le→leb k i l),
-)
+-- ---- without the least member
 
 -- what holds of odd numbers, and of an even one where it holds of its half, holds of every number above 0
 halving : (P : ℕ → Type 0) → ((s : ℕ) → s % 2 ≡ 1 → P s) → ((s : ℕ) → s % 2 ≡ 0 → 0 < s / 2 → P (s / 2) → P s) → (s : ℕ) → 0 < s → P s
@@ -198,6 +188,62 @@ halving P odd even = bin-ind (λ s. 0 < s → P s) (λ h. absurd (omega arith)) 
         let n = eqb-false (s % 2) 1 e in
         let l : 0 < s / 2 = omega arith in
         even s (omega arith) l (next l)
+
+-- what s shares with the number before it: all bits but the lowest, which is bit i
+abbrev ButLowest : ℕ → Type 0
+ButLowest s = (i : ℕ) → T (has s i) → ((j : ℕ) → T (has s j) → i ≤ j) → (j : ℕ) → T (has (bitAnd s (s - 1)) j) ↔ (T (has s j) × ¬ (j ≡ i))
+
+-- that holds of every number above 0
+but-lowest : (s : ℕ) → 0 < s → ButLowest s
+but-lowest = halving ButLowest odd even
+  where
+    odd : (s : ℕ) → s % 2 ≡ 1 → ButLowest s
+    odd s o i h l zero = (
+      λ t. absurd (omega (arith, and-step s (s - 1), has-first (bitAnd s (s - 1)) .0 t)),
+      λ (t, n). absurd (n (omega (arith, l 0 t))),
+    )
+    odd s o i h l (suc j) =
+        let half : (s - 1) / 2 ≡ s / 2 = omega arith in
+        let shared : bitAnd s (s - 1) / 2 ≡ s / 2 = omega (arith, rw (half, and-self) at (and-step s (s - 1))) in
+        let same : has (bitAnd s (s - 1)) (suc j) ≡ has s (suc j) = rw (has-half (bitAnd s (s - 1)) j, shared, has-half s j) in
+        (λ t. (rw same at t, λ e. omega (arith, l 0 (has-first s .1 o))), λ (t, n). rw same t)
+
+    even : (s : ℕ) → s % 2 ≡ 0 → 0 < s / 2 → ButLowest (s / 2) → ButLowest s
+    even s o p next zero h l j = absurd (omega (arith, has-first s .0 h))
+    even s o p next (suc i) h l zero = (
+      λ t. absurd (omega (arith, and-step s (s - 1), has-first (bitAnd s (s - 1)) .0 t)),
+      λ (t, n). absurd (omega (arith, has-first s .0 t)),
+    )
+    even s o p next (suc i) h l (suc j) =
+        let half : (s - 1) / 2 ≡ s / 2 - 1 = omega arith in
+        let shared : bitAnd s (s - 1) / 2 ≡ bitAnd (s / 2) (s / 2 - 1) = omega (arith, rw half at (and-step s (s - 1))) in
+        let (f, g) = next i (rw has-half at h) (λ k t. omega (arith, l (suc k) (rw has-half t))) j in (
+          λ t. let (a, b) = f (rw (has-half, shared) at t) in (rw has-half a, λ e. b (omega arith)),
+          λ (t, n). rw (has-half, shared) (g (rw has-half at t, λ e. n (omega arith))),
+        )
+
+-- what a set shares with the number before it is the set without its least member
+pub without-first : (s : ℕ) → s < 2 ^ 64 → 0 < s → (i : ℕ) → First i s → bitAnd s (s - 1) ≡ difference s (2 ^ i)
+unfolding difference
+without-first s b h i first =
+    let there = first .member in
+    let shared = but-lowest s h i (there .there) (λ j t. first .least j (bit-member s j b t)) in
+    same-members (bitAnd s (s - 1)) (difference s (2 ^ i)) (omega (arith, and-le-l s (s - 1))) (members-bytes s (λ j. not (has (2 ^ i) j))) (λ j. (
+      λ m. let (t, n) = shared j .0 (m .there) in in-difference s (2 ^ i) .1 (member (m .small) t, λ o. n (in-one o)),
+      λ m.
+          let (t, n) = in-difference s (2 ^ i) .0 m in
+          member (t .small) (shared j .1 (t .there, λ e. n (rw e (one-in (there .small))))),
+    ))
+
+-- ---- members from k on
+
+-- some member is k or above
+pub some-from : (s k : ℕ) → T (someFrom s k) ↔ ((i : ℕ) × Member i s × (k ≤ i))
+unfolding someFrom
+some-from s k = (
+  λ h. let (i, m, l) = some-member s (leb k) .0 h in (i, m, leb→le k i l),
+  λ (i, m, l). some-member s (leb k) .1 (i, m, le→leb k i l),
+)
 
 -- a number above 0 has a bit
 some-bit : (s : ℕ) → 0 < s → (i : ℕ) × T (has s i)

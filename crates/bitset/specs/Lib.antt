@@ -1,2 +1,3 @@
--- What is in one set and not in another.
+-- What the code says of sets beside the model's definitions.
 pub mod Difference
+pub mod First

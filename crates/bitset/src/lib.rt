@@ -1,8 +1,9 @@
 // Sets of numbers below 64 as u64, bit i for i: each function gives what the model's definition says.
 ghost use mathlib.Core.Path.{_≡_};
-ghost use Prim.Native.Nat.{_<_, _^_};
-ghost use Rattle.model.specs.Set.{has as member, Member, both, either, someFrom, oneMember};
+ghost use Prim.Native.Nat.{ℕ, _<_, _^_};
+ghost use Rattle.model.specs.Set.{has as member, both, either, someFrom, oneMember};
 ghost use Rattle.bitset.specs.Difference as spec;
+ghost use Rattle.bitset.specs.First.{First};
 
 // `i` is in `set`.
 pub fn has(set: u64, i: usize) -> bool
@@ -41,20 +42,20 @@ pub fn difference(a: u64, b: u64) -> u64
     a ^ intersection(a, b)
 }
 
-// A member of `set`, the least.
+// The least member of `set`.
 pub fn first_member(set: u64) -> usize
     requires { ⌜ 0 < set ⌝ }
-    ensures { λ r. ⌜ Member r set ⌝ }
+    ensures { λ r. ⌜ First r set ⌝ }
 {
     u64::trailing_zeros(set) as usize
 }
 
-// `set` without its member `i`.
-pub fn without(set: u64, i: usize) -> u64
-    requires { ⌜ Member i set ⌝ }
-    ensures { λ r. ⌜ (r ≡ spec.difference set (2 ^ i)) × (r < set) ⌝ }
+// `set` without its least member.
+pub fn without_first(set: u64) -> u64
+    requires { ⌜ 0 < set ⌝ }
+    ensures { λ r. ⌜ ((i : ℕ) → First i set → r ≡ spec.difference set (2 ^ i)) × (r < set) ⌝ }
 {
-    difference(set, 1 << i)
+    set & (set - 1)
 }
 
 // `set` has exactly one member.

@@ -20,12 +20,12 @@ none-strange m w = (
   λ f. none-at (leb m) w .1 (λ i h. lt-leb m (getD w i 0) (f i h)),
 )
 
-module _ (m : ℕ) (w : List ℕ) (i : ℕ) (passing : Passing (leb m) w i) (h : i < length w) where
+module _ (m : ℕ) (w : List ℕ) (i : ℕ) (passing : Passing (leb m) w i false) (h : i < length w) where
   -- the next letter is m or above
   pub strange-found : m ≤ getD w i 0 → true ≡ strange m w
   unfolding strange
-  strange-found l = passing-found (leb m) w i passing h (le-leb m (getD w i 0) l)
+  strange-found l = passing-found (leb m) w i false passing h (le-leb m (getD w i 0) l) .same
 
   -- it is below m
-  pub strange-more : getD w i 0 < m → Passing (leb m) w (i + 1)
-  strange-more l = passing-more (leb m) w i passing h (lt-leb m (getD w i 0) l)
+  pub strange-more : getD w i 0 < m → Passing (leb m) w (i + 1) false
+  strange-more l = passing-more (leb m) w i false passing h (lt-leb m (getD w i 0) l)

@@ -14,7 +14,7 @@ use Rattle.records.specs.Written.{Enough}
 -- room for an entry for each place that a mask can have and for each block, and for what the passes remember on their way
 abbrev pub Lent : Mask → List ℕ → List ℕ → List ℕ → List ℕ → List ℕ → List ℕ → Type 0
 Lent m bases lowers uppers firsts sets known =
-    Enough bases lowers uppers (m .uppers + m .blocks) × (m .blocks ≤ length firsts) × (m .uppers ≤ length sets) × (length known ≡ 66)
+    Enough bases lowers uppers (m .uppers + m .blocks) × (m .blocks ≤ length firsts) × (m .uppers ≤ length sets) × (length known ≡ 133)
 
 -- the states possible behind the last block, and, where some code is legal, the narrowed list
 pub record Found (b : Dfa) (xs : List Block) (s : ℕ) (ys : List Block) : Type 0 where

@@ -125,7 +125,7 @@ pub(crate) fn narrow_small(pair: Pair, book: &[u8], mask: &[u8], out: &mut [u8])
     let mut uppers = [0u16; 128];
     let mut firsts = [0u64; 64];
     let mut sets = [0u64; 64];
-    let mut known = [0u64; 66];
+    let mut known = [0u64; 133];
     narrow_in(
         pair,
         book,
@@ -150,7 +150,7 @@ pub(crate) fn narrow_large(pair: Pair, book: &[u8], mask: &[u8], out: &mut [u8])
     let mut uppers = [0u16; 2048];
     let mut firsts = [0u64; 1024];
     let mut sets = [0u64; 1024];
-    let mut known = [0u64; 66];
+    let mut known = [0u64; 133];
     narrow_in(
         pair,
         book,

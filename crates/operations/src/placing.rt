@@ -86,7 +86,7 @@ fn place_small(pair: Pair, book: &[u8], mask: &[u8], entry: usize) -> Block
     let mut uppers = [0u16; 128];
     let mut firsts = [0u64; 64];
     let mut sets = [0u64; 64];
-    let mut known = [0u64; 66];
+    let mut known = [0u64; 133];
     place_in(
         pair,
         book,
@@ -112,7 +112,7 @@ fn place_large(pair: Pair, book: &[u8], mask: &[u8], entry: usize) -> Block
     let mut uppers = [0u16; 2048];
     let mut firsts = [0u64; 1024];
     let mut sets = [0u64; 1024];
-    let mut known = [0u64; 66];
+    let mut known = [0u64; 133];
     place_in(
         pair,
         book,

@@ -4,8 +4,9 @@ use Prim.Native.Nat.{ℕ, _^_, _<_}
 use mathlib.Core.Path.{_≡_}
 use mathlib.Core.Logic.{_↔_, _⊎_, inl, inr, ⊎-elim, ⊎-map}
 use native.Mathlib.Omega.{arith}
-use Rattle.model.specs.Set.{Member}
-use Rattle.model.proofs.Set.{in-none}
+use lib.Bits.{or-lt}
+use Rattle.model.specs.Set.{Member, either, unionOf}
+use Rattle.model.proofs.Set.{in-none, in-either, in-union}
 use Rattle.bitset.specs.Difference.{difference}
 use Rattle.bitset.proofs.Laws.{same-members}
 use Rattle.propagator.proofs.Gathering.{member-or-rest}
@@ -52,3 +53,19 @@ module _ (G : ℕ → ℕ → Type 0) (s rest found : ℕ) (collecting : Collect
     λ m. is x .1 (collecting .same x .1 (inl m)),
     λ m. ⊎-elim (λ n. n) (λ (j, n, g). absurd (in-none (rw e at n))) (collecting .same x .0 (is x .0 m)),
   ))
+
+-- the member i gives the members of f i
+abbrev pub Gives : (ℕ → ℕ) → ℕ → ℕ → Type 0
+Gives f i x = Member x (f i)
+
+module _ (f : ℕ → ℕ) (s rest found : ℕ) (collecting : Collecting (Gives f) s rest found) where
+  -- one member more: what it gives is added
+  pub union-more : (i r found' rest' : ℕ) → Member i rest → r ≡ f i → r < 2 ^ 64 → found' ≡ either found r → rest' ≡ difference rest (2 ^ i)
+      → Collecting (Gives f) s rest' found'
+  union-more i r found' rest' m e b d l =
+      collecting-more (Gives f) s rest found collecting i rest' found' m l (rw d (or-lt 64 found r (collecting .bytes) b))
+      (λ x. rw (d, ← e) (in-either found r))
+
+  -- no member is left
+  pub union-ends : rest ≡ 0 → unionOf s f < 2 ^ 64 → found ≡ unionOf s f
+  union-ends e b = collecting-ends (Gives f) s rest found collecting (unionOf s f) e b (λ x. in-union s f)

@@ -1,4 +1,4 @@
--- The loops over the letters of a set: what one state does by each of them.
+-- The loops over the letters of a set, and over the states of one: what one state does by each letter, and one letter from each state.
 -- Assumes nothing.
 use Prim.Native.Nat.{ℕ, _^_, _≤_, _<_}
 use mathlib.Core.Path.{_≡_, refl, _∙_}
@@ -12,13 +12,14 @@ use lib.Pow.{pow-lt}
 use Rattle.model.specs.Set.{has, Member, either}
 use Rattle.model.specs.Automaton.{Table, next}
 use Rattle.model.specs.Passes.{reach, after, between}
-use Rattle.model.proofs.Set.{member, in-one, one-in, in-none, in-either, in-union, some-member, union-bytes}
+use Rattle.model.proofs.Set.{member, in-one, one-in, in-none, some-member, union-bytes}
 use Rattle.model.proofs.Automaton.{next-le}
 use Rattle.model.proofs.Steps.{in-between, between-bytes}
 use Rattle.bitset.specs.Difference.{difference}
 use Rattle.bitset.proofs.Laws.{same-test, in-add}
 use Rattle.propagator.specs.Moves.{leads}
-use Rattle.propagator.proofs.Collecting.{taken-out, Collecting, collecting-more, collecting-ends}
+use Rattle.propagator.specs.Known.{image}
+use Rattle.propagator.proofs.Collecting.{taken-out, Collecting, collecting-more, collecting-ends, Gives, union-ends}
 
 -- a state without a number has no move but to the dead state
 pub next-dead : (t : Table) (q c : ℕ) → t .states ≤ q → t .states ≡ next t q c
@@ -43,25 +44,30 @@ pub after-bytes : (t : Table) → t .states < 64 → (S Q : ℕ) → after t S Q
 unfolding after
 after-bytes t fits S Q = union-bytes Q (reach t S) (reach-bytes t fits S)
 
+-- and from these by one letter alone
+pub image-bytes : (t : Table) → t .states < 64 → (Q c : ℕ) → image t Q c < 2 ^ 64
+unfolding image
+image-bytes t fits Q c = union-bytes Q (λ q. 2 ^ next t q c) (λ q. pow-lt (next-small t fits q c))
+
 -- ---- the states after one letter
 
--- the letter c leads from q to the state x
-abbrev pub To : Table → ℕ → ℕ → ℕ → Type 0
-To t q c x = Member x (2 ^ next t q c)
+-- the set of the one state that q moves to by c
+abbrev pub moved : Table → ℕ → ℕ → ℕ
+moved t q c = 2 ^ next t q c
 
-module _ (t : Table) (fits : t .states < 64) (S q rest found : ℕ) (collecting : Collecting (To t q) S rest found) where
-  -- one letter more
-  pub successors-more : (c r found' rest' : ℕ) → Member c rest → r ≡ next t q c → found' ≡ either found (2 ^ r)
-      → rest' ≡ difference rest (2 ^ c) → Collecting (To t q) S rest' found'
-  successors-more c r found' rest' m e d l =
-      collecting-more (To t q) S rest found collecting c rest' found' m l (rw d (or-lt 64 found (2 ^ r) (collecting .bytes) (pow-lt (moved-small t q c r e fits))))
-      (λ x. rw (d, ← e) (in-either found (2 ^ r)))
+-- it is one of 8 bytes, also where that state is given by an equation
+pub moved-bytes : (t : Table) → t .states < 64 → (q c r : ℕ) → r ≡ next t q c → 2 ^ r < 2 ^ 64
+moved-bytes t fits q c r e = pow-lt (moved-small t q c r e fits)
 
-  -- no letter is left
-  pub successors-end : rest ≡ 0 → found ≡ reach t S q
-  unfolding reach
-  successors-end e =
-      collecting-ends (To t q) S rest found collecting (reach t S q) e (reach-bytes t fits S q) (λ x. in-union S (λ c. 2 ^ next t q c))
+-- no letter is left
+pub successors-end : (t : Table) → t .states < 64 → (S q rest found : ℕ) → Collecting (Gives (moved t q)) S rest found → rest ≡ 0 → found ≡ reach t S q
+unfolding reach
+successors-end t fits S q rest found collecting e = union-ends (moved t q) S rest found collecting e (reach-bytes t fits S q)
+
+-- no state is left
+pub image-end : (t : Table) → t .states < 64 → (Q c rest found : ℕ) → Collecting (Gives (λ q. moved t q c)) Q rest found → rest ≡ 0 → found ≡ image t Q c
+unfolding image
+image-end t fits Q c rest found collecting e = union-ends (λ q. moved t q c) Q rest found collecting e (image-bytes t fits Q c)
 
 -- ---- the letters that lead to a set
 

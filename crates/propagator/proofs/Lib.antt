@@ -2,6 +2,7 @@
 pub mod Gathering
 pub mod Letters
 pub mod Collecting
+pub mod Targets
 pub mod Remembered
 pub mod Filling
 pub mod Rounds

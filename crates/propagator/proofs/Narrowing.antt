@@ -12,7 +12,7 @@ use Rattle.model.specs.Passes.{before, between}
 use Rattle.model.proofs.Set.{in-none, in-one, one-in, in-either}
 use Rattle.model.proofs.Steps.{between-within, between-bytes, in-between}
 use Rattle.bitset.specs.Difference.{difference}
-use Rattle.bitset.proofs.Laws.{same-members, least-in, in-difference}
+use Rattle.bitset.proofs.Laws.{same-members, trailing-first, in-difference}
 use Rattle.propagator.specs.Moves.{leads}
 use Rattle.propagator.proofs.Gathering.{inside-or-not, member-or-rest}
 use Rattle.propagator.proofs.Keeping.{Leading, before-bytes, Keeping, leads-exact, keeping-more, keeping-ends}
@@ -71,7 +71,7 @@ module _ (t : Table) (fits : t .states < 64) (S Q E letters states rest : ℕ) (
     -- where there is a fresh letter, one leads from i
     fresh-found : ¬ (fresh ≡ 0) → Leading t S E i
     fresh-found n =
-        let (k, e) = fresh-leads (least-in fresh fresh-bytes (omega arith)) in
+        let (k, e) = fresh-leads (trailing-first fresh fresh-bytes (omega arith) .member) in
         (_, k, e)
 
     -- where a letter found before leads from i, one of S does

@@ -6,25 +6,41 @@ use mathlib.Core.List.{List}
 use native.Mathlib.Omega.{arith}
 use lib.Dec.{T}
 use lib.ListN.{length, getD, set, length-set}
-use lib.Seq.{getD-set-same}
+use lib.Seq.{getD-set-same, getD-set-other}
 use Rattle.model.specs.declared.Block.{Block}
 use Rattle.model.specs.Set.{has, both, either}
 use Rattle.model.specs.Automaton.{Dfa, Table}
 use Rattle.model.specs.Passes.{segments, finals, narrowedList}
 use Rattle.model.specs.Verdict.{someLegal}
 use Rattle.model.proofs.Set.{member, in-none, in-both, some-member}
-use Rattle.propagator.specs.Known.{Known}
+use Rattle.propagator.specs.Known.{Targets, Known}
 use Rattle.propagator.specs.Rows.{entriesTo, entering, Inside}
+use Rattle.propagator.proofs.Remembered.{unwritten}
 use Rattle.propagator.proofs.Rows.{entering-last, list-whole}
 
--- nothing is known yet
-pub known-none : (t : Table) (known : List ℕ) → length known ≡ 66 → Known t (getD (set known 64 0) 65 0) (set known 64 0)
-known-none t known size =
+-- the slice has as many elements as before
+pub none-size : (known : List ℕ) (B : ℕ) → length (set (set (set known 64 0) 130 0) 132 B) ≡ length known
+none-size known B = length-set (set (set known 64 0) 130 0) 132 B ∙ length-set (set known 64 0) 130 0 ∙ length-set known 64 0
+
+-- nothing is known yet, but where moves lead
+pub known-none : (t : Table) (known : List ℕ) (B : ℕ) → length known ≡ 133 → Targets t B
+    → Known t (getD (set (set (set known 64 0) 130 0) 132 B) 65 0) (set (set (set known 64 0) 130 0) 132 B)
+known-none t known B size targets =
     record {
-      size = rw length-set size;
+      size = none-size known B ∙ size;
       base = refl;
-      each = λ q m. absurd (in-none (rw (getD-set-same known 64 0 0 (omega arith)) at m));
+      states = λ q m. absurd (in-none (rw no-state at m));
+      letters = λ c m. absurd (in-none (rw no-letter at m));
+      moves = rw (getD-set-same (set (set known 64 0) 130 0) 132 B 0 (rw (length-set (set known 64 0) 130 0, length-set known 64 0, size) (omega arith))) targets;
     }
+  where
+    no-state : getD (set (set (set known 64 0) 130 0) 132 B) 64 0 ≡ 0
+    no-state = unwritten (set known 64 0) 130 0 132 B 64 (λ e. omega arith) (λ e. omega arith) ∙ getD-set-same known 64 0 0 (rw size (omega arith))
+
+    no-letter : getD (set (set (set known 64 0) 130 0) 132 B) 130 0 ≡ 0
+    no-letter =
+        getD-set-other (set (set known 64 0) 130 0) 132 130 B 0 (λ e. omega arith)
+        ∙ getD-set-same (set known 64 0) 130 0 0 (rw (length-set known 64 0, size) (omega arith))
 
 module _ (d : Dfa) (xs : List Block) (n start states : ℕ) (first : start ≡ either 0 (2 ^ d .start)) (behind : states ≡ entering (d .table) start xs n)
     (size : length xs ≡ n) where

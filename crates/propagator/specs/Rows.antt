@@ -68,7 +68,7 @@ Scratch bases lowers uppers n firsts sets known =
     Enough bases lowers uppers (lowerSum (blocksOf bases lowers uppers n) + n)
     × (lowerSum (blocksOf bases lowers uppers n) ≤ length sets)
     × (n ≤ length firsts)
-    × (length known ≡ 66)
+    × (length known ≡ 133)
 
 -- what both passes over the first n blocks of three slices leave there: the states possible behind the last block, how many
 -- entries there are, and, where some code is legal, the entries themselves

@@ -9,6 +9,7 @@ ghost use Rattle.propagator.specs.Rows.{Scratch, Leaves};
 
 mod ahead;
 mod back;
+mod images;
 mod known;
 mod moving;
 mod optional;
@@ -55,6 +56,8 @@ pub fn pass(
         letters: book.letters,
     };
     known[64] = 0;
+    known[130] = 0;
+    known[132] = moving::targets(shape, moves);
     let start = bitset::add(0, book.start);
     let Behind { states, sum } = go_ahead(
         shape,

@@ -29,7 +29,7 @@ fn raise(shape: Shape, moves: &[u8], base: u64, within: u64, level: u64) -> u64
         if some_letter_to(shape, moves, base, q, level) {
             found = bitset::add(found, q);
         }
-        rest = bitset::without(rest, q);
+        rest = bitset::without_first(rest);
     }
     found
 }

@@ -34,7 +34,7 @@ pub(crate) fn narrow_place(shape: Shape, moves: &[u8], base: u64, from: u64, end
             states = bitset::add(states, q);
         }
         letters = bitset::union(letters, fresh);
-        rest = bitset::without(rest, q);
+        rest = bitset::without_first(rest);
     }
     Kept { letters, states }
 }

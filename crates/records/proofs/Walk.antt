@@ -1,7 +1,7 @@
 -- What the loops over the blocks of a record, and over its moves, keep from turn to turn.
 -- Assumes nothing.
-use mathlib.Core.Path.{_≡_, refl}
-use mathlib.Core.Bool.{Bool, true, false}
+use mathlib.Core.Path.{_≡_, refl, sym, _∙_}
+use mathlib.Core.Bool.{Bool, true, false, _||_, or-true, or-false}
 use mathlib.Core.List.{List, [], _∷_}
 use Prim.Native.Nat.{ℕ, zero, suc, _+_, _*_, _-_, _≤_, _<_}
 use native.Mathlib.Nat.{add-zero, add-assoc}
@@ -76,27 +76,27 @@ module _ (bs : List ℕ) (blocks at left sum : ℕ) (summing : Summing bs blocks
   pub summing-ends : left ≤ 0 → sum ≡ uppers (blocksFrom blocks bs 6)
   summing-ends h = rw (no-block bs at left h, add-zero) at (summing .whole)
 
--- a search in a list: whether some element passes the test is whether one from i on does
-pub record Passing (p : ℕ → Bool) (l : List ℕ) (i : ℕ) : Type 0 where
+-- a search through a whole list: an element passes the test where one was found, or where one from i on does
+pub record Passing (p : ℕ → Bool) (l : List ℕ) (i : ℕ) (found : Bool) : Type 0 where
   pub within : i ≤ length l
-  pub same : some p (drop i l) ≡ some p l
+  pub same : (found || some p (drop i l)) ≡ some p l
 
 -- no element is looked at yet
-pub passing-starts : (p : ℕ → Bool) (l : List ℕ) → Passing p l 0
+pub passing-starts : (p : ℕ → Bool) (l : List ℕ) → Passing p l 0 false
 passing-starts p l = record { within = omega arith; same = refl }
 
-module _ (p : ℕ → Bool) (l : List ℕ) (i : ℕ) (passing : Passing p l i) where
+module _ (p : ℕ → Bool) (l : List ℕ) (i : ℕ) (found : Bool) (passing : Passing p l i found) where
   -- the next element passes
-  pub passing-found : i < length l → p (getD l i 0) ≡ true → true ≡ some p l
+  pub passing-found : i < length l → p (getD l i 0) ≡ true → Passing p l (i + 1) true
   unfolding some
-  passing-found h t = rw (drop-cons l i 0 h, t) at (passing .same)
+  passing-found h t = record { within = omega arith; same = sym (or-true found) ∙ (rw (drop-cons l i 0 h, t) at (passing .same)) }
 
   -- it does not
-  pub passing-more : i < length l → p (getD l i 0) ≡ false → Passing p l (i + 1)
+  pub passing-more : i < length l → p (getD l i 0) ≡ false → Passing p l (i + 1) found
   unfolding some
   passing-more h t = record { within = omega arith; same = rw (add-one i) (rw (drop-cons l i 0 h, t) at (passing .same)) }
 
   -- none is left
-  pub passing-ends : length l ≤ i → false ≡ some p l
+  pub passing-ends : length l ≤ i → found ≡ some p l
   unfolding some
-  passing-ends h = rw (drop-of-length-le l h) at (passing .same)
+  passing-ends h = sym (or-false found) ∙ (rw (drop-of-length-le l h) at (passing .same))

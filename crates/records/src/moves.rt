@@ -15,16 +15,17 @@ fn stray(states: usize, next: u8) -> bool
     state != 255
 }
 
-// Whether some move is such a one.
+// Whether some move is such a one. All are looked at: without an early exit the loop takes many at a time.
 pub(crate) fn some_stray(states: usize, moves: &[u8]) -> bool
     ensures { λ r. ⌜ r ≡ some (spec.stray states) (now (moves .entry)) ⌝ }
 {
+    let mut found = false;
     let mut i = 0;
     while i < moves.len() {
         if stray(states, moves[i]) {
-            return true;
+            found = true;
         }
         i += 1;
     }
-    false
+    found
 }

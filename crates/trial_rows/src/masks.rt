@@ -52,6 +52,6 @@ fn letters(set: u64) {
         }
         let letter = bitset::first_member(rest);
         show::number(letter as u64);
-        rest = bitset::without(rest, letter);
+        rest = bitset::without_first(rest);
     }
 }

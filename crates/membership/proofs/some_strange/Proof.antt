@@ -1,6 +1,7 @@
 -- `membership::some_strange` meets its contract. Assumes nothing.
 use Prim.Native.Nat.{_-_}
 use native.Mathlib.Omega.{arith}
+use mathlib.Core.Bool.{false}
 use lib.Dec.{leb}
 use lib.ListN.{length}
 use mir.Facts.{fits-widen}
@@ -11,7 +12,7 @@ use Rattle.membership.proofs.some_strange.Statement.{statement}
 use Rattle.membership.proofs.some_strange.Tie as tie
 
 abbrev Inv-loop : tie.InvT-loop
-Inv-loop word letters i₀ i = Passing (leb letters) word i
+Inv-loop word letters i₀ i = Passing (leb letters) word i false
 
 abbrev μ-loop : tie.MeasureT-loop
 μ-loop word letters i₀ i = length word - i
@@ -39,7 +40,7 @@ loop-again c = strange-more _ _ _ (c .before .before .before .loop .inv) (omega 
 
 returns-2 : tie.Need-returns-2 Inv-loop μ-loop
 unfolding strange
-returns-2 c = passing-ends _ _ _ (c .before .loop .inv) (omega arith)
+returns-2 c = passing-ends _ _ _ _ (c .before .loop .inv) (omega arith)
 
 pub some-strange-spec : {M : Type 1} → statement M
 some-strange-spec =

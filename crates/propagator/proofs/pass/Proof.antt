@@ -1,17 +1,17 @@
 -- `propagator::pass` meets its contract. Assumes nothing.
 use native.Mathlib.Omega.{arith}
 use borrow.Author.Needs.{needs}
-use lib.ListN.{length-set}
 use Rattle.model.specs.Automaton.{Dfa}
 use Rattle.records.specs.Book.{automatonOf}
 use Rattle.records.proofs.Stores.{length-values}
-use Rattle.propagator.proofs.Whole.{known-none, pass-finals, pass-inside, pass-none, pass-list}
+use Rattle.propagator.proofs.Targets.{targets-given}
+use Rattle.propagator.proofs.Whole.{none-size, known-none, pass-finals, pass-inside, pass-none, pass-list}
 use Rattle.propagator.proofs.pass.Statement.{statement}
 use Rattle.propagator.proofs.pass.Tie as tie
 
 -- where the function starts, before the pass forward
 abbrev start : tie.After-go-ahead-arg6 → tie.Start
-start c = c .before .before .before .before .before .before .before .before .before .before .before .before .before .before
+start c = c .before .before .before .before .before .before .before .before .before .before .before .before .before .before .before
 
 -- where the start is made a set
 abbrev added : tie.After-go-ahead-arg6 → tie.After-add
@@ -28,13 +28,23 @@ automaton c = automatonOf (c .args .book) (c .args .moves .now)
 slice-write-known : tie.Need-slice-write-known
 slice-write-known c = search needs
 
+slice-write-known-2 : tie.Need-slice-write-known-2
+slice-write-known-2 c = search needs
+
+targets-requires : tie.Need-targets-requires
+targets-requires c κs = search needs
+
+slice-write-known-3 : tie.Need-slice-write-known-3
+slice-write-known-3 c = search needs
+
 add-requires : tie.Need-add-requires
 add-requires c κs = search needs
 
 go-ahead-requires : tie.Need-go-ahead-requires
 go-ahead-requires c κs =
     let (book, (room, (enough, sets, firsts, known))) = start c .pre in
-    ((record { small = book .0; enough = book .2 }, omega (arith, enough)), (room, ((firsts, sets), known-none _ (start c .args .known .now) known)))
+    let targets = targets-given _ _ _ _ (added c .before .targets .ensures) (book .0) (book .2) in
+    ((record { small = book .0; enough = book .2 }, omega (arith, enough)), (room, ((firsts, sets), known-none _ (start c .args .known .now) _ known targets)))
 
 add-entries : tie.Need-add-entries
 add-entries c =
@@ -60,7 +70,7 @@ same-length-5 : tie.Need-same-length-5
 same-length-5 c = search needs
 
 same-length-6 : tie.Need-same-length-6
-same-length-6 c = omega (arith, length-set (start (ahead (c .before .before) .before) .args .known .now) 64 0)
+same-length-6 c = omega (arith, none-size (start (ahead (c .before .before) .before) .args .known .now) (added (ahead (c .before .before) .before) .before .targets .result))
 
 returns : tie.Need-returns
 returns c =
@@ -107,7 +117,7 @@ same-length-11 c = search needs
 same-length-12 : tie.Need-same-length-12
 same-length-12 c =
     let tested = c .before .before .before .before .before .before .before .before .before .before .before .before .before in
-    omega (arith, length-set (start (ahead (tested .before) .before) .args .known .now) 64 0)
+    omega (arith, none-size (start (ahead (tested .before) .before) .args .known .now) (added (ahead (tested .before) .before) .before .targets .result))
 
 returns-2 : tie.Need-returns-2
 returns-2 c =
@@ -128,6 +138,9 @@ pass-spec =
     tie.close
     (tie.spec
     slice-write-known
+    slice-write-known-2
+    targets-requires
+    slice-write-known-3
     add-requires
     go-ahead-requires
     add-entries

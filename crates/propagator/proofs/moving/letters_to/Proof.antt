@@ -24,19 +24,19 @@ next-requires : tie.Need-next-requires Inv-loop μ-loop
 next-requires c κs =
     let loop = c .before .before in
     let pre = loop .before .before .pre in
-    (pre .0, pre .1 _ (loop .loop .inv .within _ (c .first-member .ensures)))
+    (pre .0, pre .1 _ (loop .loop .inv .within _ (c .first-member .ensures .member)))
 
 has-requires : tie.Need-has-requires Inv-loop μ-loop
 has-requires c κs = moved-small _ _ _ _ (c .next .ensures) (c .before .before .before .before .before .pre .0 .small)
 
 add-requires : tie.Need-add-requires Inv-loop μ-loop
-add-requires c κs = c .before .before .before .first-member .ensures .small
+add-requires c κs = c .before .before .before .first-member .ensures .member .small
 
-without-requires : tie.Need-without-requires Inv-loop μ-loop
-without-requires c κs = c .before .before .before .first-member .ensures
+without-first-requires : tie.Need-without-first-requires Inv-loop μ-loop
+without-first-requires c κs = omega arith
 
 loop-less : tie.Need-loop-less Inv-loop μ-loop
-loop-less c = c .without .ensures .1
+loop-less c = c .without-first .ensures .1
 
 loop-again : tie.Need-loop-again Inv-loop μ-loop
 loop-again c =
@@ -47,12 +47,12 @@ loop-again c =
     let first = moved .before .first-member .ensures in
     ⊎-elim
     (λ (way, added, e).
-    letters-more _ fits _ _ _ _ _ (loop .loop .inv) _ _ _ _ first (moved .next .ensures) (sym (tested .has .ensures) ∙ way .taken) (e ∙ added .ensures)
-    (c .without .ensures .0))
+    letters-more _ fits _ _ _ _ _ (loop .loop .inv) _ _ _ _ (first .member) (moved .next .ensures) (sym (tested .has .ensures) ∙ way .taken) (e ∙ added .ensures)
+    (c .without-first .ensures .0 _ first))
     (λ (way, e).
     rw e
-    (letters-same _ fits _ _ _ _ _ (loop .loop .inv) _ _ _ first (moved .next .ensures) (sym (tested .has .ensures) ∙ way .left)
-    (c .without .ensures .0)))
+    (letters-same _ fits _ _ _ _ _ (loop .loop .inv) _ _ _ (first .member) (moved .next .ensures) (sym (tested .has .ensures) ∙ way .left)
+    (c .without-first .ensures .0 _ first)))
     (c .before .if1 .came)
 
 returns : tie.Need-returns Inv-loop μ-loop
@@ -72,7 +72,7 @@ letters-to-spec =
     next-requires
     has-requires
     add-requires
-    without-requires
+    without-first-requires
     loop-less
     loop-again
     returns)

@@ -22,7 +22,7 @@ next-requires : tie.Need-next-requires Inv-loop μ-loop
 next-requires c κs =
     let loop = c .before .before in
     let pre = loop .before .before .pre in
-    (pre .0, pre .1 _ (loop .loop .inv .within _ (c .first-member .ensures)))
+    (pre .0, pre .1 _ (loop .loop .inv .within _ (c .first-member .ensures .member)))
 
 has-requires : tie.Need-has-requires Inv-loop μ-loop
 has-requires c κs = moved-small _ _ _ _ (c .next .ensures) (c .before .before .before .before .before .pre .0 .small)
@@ -32,21 +32,21 @@ returns c =
     let tested = c .before in
     let moved = tested .before in
     let loop = moved .before .before .before in
-    seeking-finds _ _ _ _ _ (loop .loop .inv) _ _ (moved .before .first-member .ensures) (moved .next .ensures) (sym (tested .has .ensures) ∙ c .if1 .taken)
+    seeking-finds _ _ _ _ _ (loop .loop .inv) _ _ (moved .before .first-member .ensures .member) (moved .next .ensures) (sym (tested .has .ensures) ∙ c .if1 .taken)
 
-without-requires : tie.Need-without-requires Inv-loop μ-loop
-without-requires c κs = c .before .before .before .first-member .ensures
+without-first-requires : tie.Need-without-first-requires Inv-loop μ-loop
+without-first-requires c κs = omega arith
 
 loop-less : tie.Need-loop-less Inv-loop μ-loop
-loop-less c = c .without .ensures .1
+loop-less c = c .without-first .ensures .1
 
 loop-again : tie.Need-loop-again Inv-loop μ-loop
 loop-again c =
     let tested = c .before .before in
     let moved = tested .before in
     let loop = moved .before .before .before in
-    seeking-more _ _ _ _ _ (loop .loop .inv) _ _ _ (moved .before .first-member .ensures) (moved .next .ensures)
-    (sym (tested .has .ensures) ∙ c .before .if1 .left) (c .without .ensures .0)
+    seeking-more _ _ _ _ _ (loop .loop .inv) _ _ _ (moved .before .first-member .ensures .member) (moved .next .ensures)
+    (sym (tested .has .ensures) ∙ c .before .if1 .left) (c .without-first .ensures .0 _ (moved .before .first-member .ensures))
 
 returns-2 : tie.Need-returns-2 Inv-loop μ-loop
 returns-2 c = seeking-ends _ _ _ _ _ (c .before .loop .inv) (omega arith)
@@ -62,7 +62,7 @@ some-letter-to-spec =
     next-requires
     has-requires
     returns
-    without-requires
+    without-first-requires
     loop-less
     loop-again
     returns-2)

@@ -1,13 +1,15 @@
 -- `propagator::moving::successors` meets its contract. Assumes nothing.
+use Prim.Native.Nat.{_^_}
+use mathlib.Core.Path.{ap}
 use native.Mathlib.Omega.{arith}
 use Rattle.propagator.specs.Moves.{table}
-use Rattle.propagator.proofs.Collecting.{Collecting, collecting-starts}
-use Rattle.propagator.proofs.Letters.{To, moved-small, successors-more, successors-end}
+use Rattle.propagator.proofs.Collecting.{Collecting, collecting-starts, Gives, union-more}
+use Rattle.propagator.proofs.Letters.{moved, moved-small, moved-bytes, successors-end}
 use Rattle.propagator.proofs.moving.successors.Statement.{statement}
 use Rattle.propagator.proofs.moving.successors.Tie as tie
 
 abbrev Inv-loop : tie.InvT-loop
-Inv-loop shape moves base q found₀ rest₀ found rest = Collecting (To (table shape moves) q) base rest found
+Inv-loop shape moves base q found₀ rest₀ found rest = Collecting (Gives (moved (table shape moves) q)) base rest found
 
 abbrev μ-loop : tie.MeasureT-loop
 μ-loop shape moves base q found₀ rest₀ found rest = rest
@@ -22,23 +24,25 @@ next-requires : tie.Need-next-requires Inv-loop μ-loop
 next-requires c κs =
     let loop = c .before .before in
     let pre = loop .before .before .pre in
-    (pre .0, pre .1 _ (loop .loop .inv .within _ (c .first-member .ensures)))
+    (pre .0, pre .1 _ (loop .loop .inv .within _ (c .first-member .ensures .member)))
 
 add-requires : tie.Need-add-requires Inv-loop μ-loop
 add-requires c κs = moved-small _ _ _ _ (c .next .ensures) (c .before .before .before .before .before .pre .0 .small)
 
-without-requires : tie.Need-without-requires Inv-loop μ-loop
-without-requires c κs = c .before .before .first-member .ensures
+without-first-requires : tie.Need-without-first-requires Inv-loop μ-loop
+without-first-requires c κs = omega arith
 
 loop-less : tie.Need-loop-less Inv-loop μ-loop
-loop-less c = c .without .ensures .1
+loop-less c = c .without-first .ensures .1
 
 loop-again : tie.Need-loop-again Inv-loop μ-loop
 loop-again c =
     let moved = c .before .before in
+    let first = moved .before .first-member .ensures in
     let loop = moved .before .before .before in
-    successors-more _ (loop .before .before .pre .0 .small) _ _ _ _ (loop .loop .inv) _ _ _ _ (moved .before .first-member .ensures)
-    (moved .next .ensures) (c .before .add .ensures) (c .without .ensures .0)
+    let e = moved .next .ensures in
+    union-more _ _ _ _ (loop .loop .inv) _ _ _ _ (first .member) (ap (λ r. 2 ^ r) e) (moved-bytes _ (loop .before .before .pre .0 .small) _ _ _ e)
+    (c .before .add .ensures) (c .without-first .ensures .0 _ first)
 
 returns : tie.Need-returns Inv-loop μ-loop
 returns c =
@@ -55,7 +59,7 @@ successors-spec =
     first-member-requires
     next-requires
     add-requires
-    without-requires
+    without-first-requires
     loop-less
     loop-again
     returns)

@@ -31,21 +31,21 @@ some-letter-to-requires : tie.Need-some-letter-to-requires Inv-loop μ-loop
 some-letter-to-requires c κs = c .before .before .before .before .before .pre
 
 add-requires : tie.Need-add-requires Inv-loop μ-loop
-add-requires c κs = c .before .before .first-member .ensures .small
+add-requires c κs = c .before .before .first-member .ensures .member .small
 
-without-requires : tie.Need-without-requires Inv-loop μ-loop
-without-requires c κs = c .before .before .first-member .ensures
+without-first-requires : tie.Need-without-first-requires Inv-loop μ-loop
+without-first-requires c κs = omega arith
 
 loop-less : tie.Need-loop-less Inv-loop μ-loop
-loop-less c = c .without .ensures .1
+loop-less c = c .without-first .ensures .1
 
 loop-again : tie.Need-loop-again Inv-loop μ-loop
 loop-again c =
     let tested = c .before .before in
     let loop = tested .before .before .before in
     let start = loop .before .before .before in
-    raising-more _ (start .pre .0 .small) _ (start .args .within) _ _ _ _ _ _ _ _ (loop .loop .inv) (tested .before .first-member .ensures)
-    (c .without .ensures .0) (tested .some-letter-to .ensures)
+    raising-more _ (start .pre .0 .small) _ (start .args .within) _ _ _ _ _ _ _ _ (loop .loop .inv) (tested .before .first-member .ensures .member)
+    (c .without-first .ensures .0 _ (tested .before .first-member .ensures)) (tested .some-letter-to .ensures)
     (⊎-map (λ (leads, add, same). (leads .taken, same ∙ add .ensures)) (λ (leads, same). (leads .left, same)) (c .before .if1 .came))
 
 returns : tie.Need-returns Inv-loop μ-loop
@@ -64,7 +64,7 @@ raise-spec =
     first-member-requires
     some-letter-to-requires
     add-requires
-    without-requires
+    without-first-requires
     loop-less
     loop-again
     returns)

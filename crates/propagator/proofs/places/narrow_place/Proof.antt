@@ -28,7 +28,7 @@ letters-to-requires c κs =
     let start = c .before .before .before .before .before in
     let base = start .args .base in
     let letters = c .before .before .before .loop .letters in
-    (start .pre .0, λ d m. start .pre .1 d (in-difference base letters .0 (rw (c .difference .ensures) at m) .0), c .before .first-member .ensures .small)
+    (start .pre .0, λ d m. start .pre .1 d (in-difference base letters .0 (rw (c .difference .ensures) at m) .0), c .before .first-member .ensures .member .small)
 
 some-letter-to-requires : tie.Need-some-letter-to-requires Inv-loop μ-loop
 some-letter-to-requires c κs =
@@ -37,16 +37,16 @@ some-letter-to-requires c κs =
     (start .pre .0, λ d m. start .pre .1 d (narrowing-letter _ (start .pre .0 .small) _ _ _ _ _ _ (loop .loop .inv) d m))
 
 add-requires : tie.Need-add-requires Inv-loop μ-loop
-add-requires c κs = c .before .before .before .first-member .ensures .small
+add-requires c κs = c .before .before .before .first-member .ensures .member .small
 
 union-requires : tie.Need-union-requires Inv-loop μ-loop
 union-requires c κs = tt
 
-without-requires : tie.Need-without-requires Inv-loop μ-loop
-without-requires c κs = c .before .before .before .before .first-member .ensures
+without-first-requires : tie.Need-without-first-requires Inv-loop μ-loop
+without-first-requires c κs = omega arith
 
 loop-less : tie.Need-loop-less Inv-loop μ-loop
-loop-less c = c .without .ensures .1
+loop-less c = c .without-first .ensures .1
 
 loop-again : tie.Need-loop-again Inv-loop μ-loop
 loop-again c =
@@ -54,8 +54,8 @@ loop-again c =
     let fresh = joined .before in
     let loop = fresh .before .before .before .before in
     let start = loop .before .before in
-    narrowing-more _ (start .pre .0 .small) _ _ _ _ _ _ (loop .loop .inv) _ _ (fresh .before .before .first-member .ensures)
-    (rw (fresh .before .difference .ensures) at (fresh .letters-to .ensures)) _ _ _ (c .before .union .ensures) (c .without .ensures .0)
+    narrowing-more _ (start .pre .0 .small) _ _ _ _ _ _ (loop .loop .inv) _ _ (fresh .before .before .first-member .ensures .member)
+    (rw (fresh .before .difference .ensures) at (fresh .letters-to .ensures)) _ _ _ (c .before .union .ensures) (c .without-first .ensures .0 _ (fresh .before .before .first-member .ensures))
     (⊎-map
     (λ (test, add, same). (⊎-map (λ some. some .taken) (λ (_, old, found). sym (old .ensures) ∙ found .taken) (test .came), same ∙ add .ensures))
     (λ (none, old, left, same). (none .left, sym (old .ensures) ∙ left .left, same)) (joined .if1 .came))
@@ -78,7 +78,7 @@ narrow-place-spec =
     some-letter-to-requires
     add-requires
     union-requires
-    without-requires
+    without-first-requires
     loop-less
     loop-again
     returns)

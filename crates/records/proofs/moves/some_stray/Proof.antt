@@ -1,5 +1,6 @@
 -- `records::moves::some_stray` meets its contract. Assumes nothing.
 use mathlib.Core.Path.{sym, _∙_}
+use mathlib.Core.Logic.{⊎-elim}
 use Prim.Native.Nat.{_-_}
 use native.Mathlib.Omega.{arith}
 use borrow.Author.Needs.{needs}
@@ -10,10 +11,10 @@ use Rattle.records.proofs.moves.some_stray.Statement.{statement}
 use Rattle.records.proofs.moves.some_stray.Tie as tie
 
 abbrev Inv-loop : tie.InvT-loop
-Inv-loop states moves i₀ i = Passing (stray states) moves i
+Inv-loop states moves found₀ i₀ found i = Passing (stray states) moves i found
 
 abbrev μ-loop : tie.MeasureT-loop
-μ-loop states moves i₀ i = length moves - i
+μ-loop states moves found₀ i₀ found i = length moves - i
 
 loop-holds : tie.Need-loop-holds Inv-loop μ-loop
 loop-holds c = passing-starts _ _
@@ -24,9 +25,6 @@ shared-slice-read-stray c = omega arith
 stray-requires : tie.Need-stray-requires Inv-loop μ-loop
 stray-requires c κs = search needs
 
-returns : tie.Need-returns Inv-loop μ-loop
-returns c = passing-found _ _ _ (c .before .before .before .before .loop .inv) (omega arith) (sym (c .before .stray .ensures) ∙ c .if1 .taken)
-
 add-i : tie.Need-add-i Inv-loop μ-loop
 add-i c = omega arith
 
@@ -34,10 +32,16 @@ loop-less : tie.Need-loop-less Inv-loop μ-loop
 loop-less c = omega arith
 
 loop-again : tie.Need-loop-again Inv-loop μ-loop
-loop-again c = passing-more _ _ _ (c .before .before .before .before .loop .inv) (omega arith) (sym (c .before .stray .ensures) ∙ c .if1 .left)
+loop-again c =
+    let tested = c .before in
+    let loop = tested .before .before .before in
+    ⊎-elim
+    (λ (way, e). rw e (passing-found _ _ _ _ (loop .loop .inv) (omega arith) (sym (tested .stray .ensures) ∙ way .taken)))
+    (λ (way, e). rw e (passing-more _ _ _ _ (loop .loop .inv) (omega arith) (sym (tested .stray .ensures) ∙ way .left)))
+    (c .if1 .came)
 
-returns-2 : tie.Need-returns-2 Inv-loop μ-loop
-returns-2 c = passing-ends _ _ _ (c .before .loop .inv) (omega arith)
+returns : tie.Need-returns Inv-loop μ-loop
+returns c = passing-ends _ _ _ _ (c .before .loop .inv) (omega arith)
 
 pub some-stray-spec : {M : Type 1} → statement M
 some-stray-spec =
@@ -48,8 +52,7 @@ some-stray-spec =
     loop-holds
     shared-slice-read-stray
     stray-requires
-    returns
     add-i
     loop-less
     loop-again
-    returns-2)
+    returns)

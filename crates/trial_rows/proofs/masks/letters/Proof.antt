@@ -25,8 +25,8 @@ first-member-requires c κs = search needs
 number-requires : tie.Need-number-requires Inv-loop μ-loop
 number-requires c κs = search needs
 
-without-requires : tie.Need-without-requires Inv-loop μ-loop
-without-requires c κs = search needs
+without-first-requires : tie.Need-without-first-requires Inv-loop μ-loop
+without-first-requires c κs = search needs
 
 loop-less : tie.Need-loop-less Inv-loop μ-loop
 loop-less c = search needs
@@ -48,7 +48,7 @@ letters-spec =
     text-requires
     first-member-requires
     number-requires
-    without-requires
+    without-first-requires
     loop-less
     loop-again
     returns)
