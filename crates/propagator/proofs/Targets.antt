@@ -7,7 +7,7 @@ use mathlib.Core.Bool.{Bool, true, false, cond}
 use mathlib.Core.List.{List}
 use native.Mathlib.Nat.{mod-eq-of-lt}
 use native.Mathlib.Omega.{arith}
-use borrow.Author.Tests.{ltb-true, ltb-false, leb-false}
+use borrow.Author.Tests.{ltb-true, ltb-false, leb-true, leb-false, lt-ltb, le-ltb}
 use lib.Bits.{and-mask}
 use lib.Dec.{ltb, leb}
 use lib.ListN.{length, getD}
@@ -23,6 +23,14 @@ use Rattle.records.proofs.Next.{move-inside, next-names}
 use Rattle.bitset.proofs.Laws.{same-test, some-from}
 use Rattle.propagator.specs.Known.{targets, Targets, limit}
 use Rattle.propagator.proofs.Letters.{next-dead}
+
+-- at least n is above n - 1
+pub least-above : (n x : ℕ) → 0 < n → leb n x ≡ ltb (n - 1) x
+least-above n x h = go (leb n x) refl
+  where
+    go : (v : Bool) → leb n x ≡ v → v ≡ ltb (n - 1) x
+    go true e = sym (lt-ltb (n - 1) x (omega (arith, leb-true n x e)))
+    go false e = sym (le-ltb (n - 1) x (omega (arith, leb-false n x e)))
 
 -- what the code makes of 1 shifted by n: the states of the book with the dead state, where a move names none, or without it
 pub targets-are : (n : ℕ) (moves : List ℕ) → n < 64 → let states = 1 * 2 ^ n % 2 ^ 64 - 1 in

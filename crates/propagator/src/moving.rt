@@ -50,24 +50,26 @@ pub(crate) fn image(shape: Shape, moves: &[u8], from: u64, c: usize) -> u64
     found
 }
 
-// Whether some move names no state. All are looked at: without an early exit the loop takes many at a time.
+// Whether some move names no state. The greatest move is kept: the compiler then takes many at a time.
 fn some_missing(states: usize, moves: &[u8]) -> bool
+    requires { ⌜ 0 < states ⌝ }
     ensures { λ r. ⌜ r ≡ some (leb states) (now (moves .entry)) ⌝ }
 {
-    let mut found = false;
+    let mut most: u8 = 0;
     let mut i = 0;
     while i < moves.len() {
-        if states <= moves[i] as usize {
-            found = true;
+        let state = moves[i];
+        if most < state {
+            most = state;
         }
         i += 1;
     }
-    found
+    states <= most as usize
 }
 
 // The states of the book and, where some move names none, the dead state.
 pub(crate) fn targets(shape: Shape, moves: &[u8]) -> u64
-    requires { ⌜ shape .states < 64 ⌝ }
+    requires { ⌜ (0 < shape .states) × (shape .states < 64) ⌝ }
     ensures { λ r. ⌜ r ≡ spec.targets (shape .states) (now (moves .entry)) ⌝ }
 {
     let states = (1 << shape.states) - 1;

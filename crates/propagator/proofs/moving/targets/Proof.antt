@@ -11,7 +11,7 @@ shl-states : tie.Need-shl-states
 shl-states c = search needs
 
 sub-states : tie.Need-sub-states
-sub-states c = omega (arith, pow-pos (c .before .args .shape .states), pow-lt {i = c .before .args .shape .states} {j = 64} (c .before .pre))
+sub-states c = omega (arith, pow-pos (c .before .args .shape .states), pow-lt {i = c .before .args .shape .states} {j = 64} (c .before .pre .1))
 
 some-missing-requires : tie.Need-some-missing-requires
 some-missing-requires c κs = search needs
@@ -22,10 +22,10 @@ add-requires c κs = search needs
 returns : tie.Need-returns
 returns c =
     let tested = c .before .before in
-    c .add .ensures ∙ targets-are _ _ (tested .before .before .pre) .0 (sym (tested .some-missing .ensures) ∙ c .before .if1 .taken)
+    c .add .ensures ∙ targets-are _ _ (tested .before .before .pre .1) .0 (sym (tested .some-missing .ensures) ∙ c .before .if1 .taken)
 
 returns-2 : tie.Need-returns-2
-returns-2 c = targets-are _ _ (c .before .before .before .pre) .1 (sym (c .before .some-missing .ensures) ∙ c .if1 .left)
+returns-2 c = targets-are _ _ (c .before .before .before .pre .1) .1 (sym (c .before .some-missing .ensures) ∙ c .if1 .left)
 
 pub targets-spec : {M : Type 1} → statement M
 targets-spec = tie.close (tie.spec shl-states sub-states some-missing-requires add-requires returns returns-2)
