@@ -4,7 +4,7 @@ PROGRAM = target/bin/narrow_lines
 HOSTS = target/hosts
 TOOLS = target/tools
 
-.PHONY: run example check lib program hosts lines tools test
+.PHONY: run example check lib program hosts enumerate lines tools test
 
 # The line program on 01's sample.
 run: program
@@ -28,12 +28,17 @@ program:
 	@mkdir -p $(HOSTS)
 	@rt check narrow_lines > $(HOSTS)/program.log 2>&1 || { cat $(HOSTS)/program.log; exit 1; }
 
-# The last line of each of the next three is 'N passed, 0 failed'.
+# The last line of each of the next four is 'N passed, 0 failed'.
 
 # Tries the archive from C.
 hosts: $(HOSTS)/test $(HOSTS)/example
 	@$(HOSTS)/example | diff - hosts/c/example.out
 	@$(HOSTS)/test
+
+# Holds the archive to the meaning, from Rust: every code of small masks is spelled out.
+enumerate: lib
+	@cd hosts/rust && cargo build --release --offline --locked --quiet
+	@target/rust/release/enumerate
 
 # Tries the line program through pipes.
 lines: program $(HOSTS)/lines
