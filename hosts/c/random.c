@@ -13,7 +13,7 @@ void random_seed(uint64_t seed)
     state = seed * 2 + 1;
 }
 
-static uint64_t random_number(void)
+uint64_t random_number(void)
 {
     state ^= state << 13;
     state ^= state >> 7;
@@ -31,10 +31,8 @@ static int one_in(unsigned n)
     return random_below(n) == 0;
 }
 
-void random_book(struct bytes *to)
+void random_book_of(struct bytes *to, unsigned states, unsigned letters, unsigned gaps, unsigned in)
 {
-    unsigned states = 1 + random_below(one_in(4) ? 63 : 6), letters = 1 + random_below(one_in(4) ? 64 : 6);
-    unsigned gaps = random_below(4); /* in five moves */
     to->len = 0;
     add(to, 15 + states * letters, 2);
     add(to, 1, 2);
@@ -43,8 +41,15 @@ void random_book(struct bytes *to)
     add(to, random_below(states), 1);
     add(to, (one_in(3) ? UINT64_MAX : random_number()) & (LETTER(states) - 1), 8);
     for (unsigned i = 0; i < states * letters; i++) {
-        add(to, random_below(5) < gaps ? 255 : random_below(states), 1);
+        add(to, random_below(in) < gaps ? 255 : random_below(states), 1);
     }
+}
+
+void random_book(struct bytes *to)
+{
+    unsigned states = 1 + random_below(one_in(4) ? 63 : 6), letters = 1 + random_below(one_in(4) ? 64 : 6);
+    unsigned gaps = random_below(4);
+    random_book_of(to, states, letters, gaps, 5);
 }
 
 /* A set of the book's letters: all, one, or any. */

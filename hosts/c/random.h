@@ -10,8 +10,13 @@
 
 void random_seed(uint64_t seed);
 
+uint64_t random_number(void);
+
 /* A number from 0 to n - 1; n is not 0. */
 unsigned random_below(unsigned n);
+
+/* A good book of this size, of whose moves so many in so many are missing. */
+void random_book_of(struct bytes *to, unsigned states, unsigned letters, unsigned gaps, unsigned in);
 
 /* A good book: small or large, with many moves or few. */
 void random_book(struct bytes *to);

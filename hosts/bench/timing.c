@@ -1,0 +1,67 @@
+/* Times contenders by turns: see timing.h. */
+#define _GNU_SOURCE
+#include "timing.h"
+
+#include <sched.h>
+#include <stdio.h>
+#include <stdlib.h>
+#include <time.h>
+
+enum { CONTENDERS = 3, FEWEST = 100, SAMPLES = 20000, SHORTEST = 20000 /* nanoseconds of a sample */ };
+
+static double samples[CONTENDERS][SAMPLES];
+
+double now(void)
+{
+    struct timespec time;
+    clock_gettime(CLOCK_MONOTONIC, &time);
+    return (double)time.tv_sec * 1e9 + (double)time.tv_nsec;
+}
+
+void stay_on_one_processor(void)
+{
+#ifdef __linux__
+    cpu_set_t set;
+    CPU_ZERO(&set);
+    CPU_SET((size_t)sched_getcpu(), &set);
+    if (sched_setaffinity(0, sizeof set, &set) != 0) {
+        perror("sched_setaffinity");
+    }
+#endif
+}
+
+/* How many runs make a sample that is long enough for the clock. */
+static unsigned runs_of_a_sample(const struct contender *contender)
+{
+    unsigned times = 1;
+    while (contender->run(contender->work, times) < SHORTEST) {
+        times *= 2;
+    }
+    return times;
+}
+
+static int compare(const void *a, const void *b)
+{
+    double x = *(const double *)a, y = *(const double *)b;
+    return (x > y) - (x < y);
+}
+
+void time_by_turns(struct contender *contenders, unsigned count, double seconds)
+{
+    unsigned times[CONTENDERS], rounds = 0;
+    for (unsigned i = 0; i < count; i++) {
+        times[i] = runs_of_a_sample(&contenders[i]);
+    }
+    double start = now();
+    while (rounds < SAMPLES && (rounds < FEWEST || now() - start < seconds * 1e9)) {
+        for (unsigned i = 0; i < count; i++) {
+            samples[i][rounds] = contenders[i].run(contenders[i].work, times[i]) / times[i];
+        }
+        rounds++;
+    }
+    for (unsigned i = 0; i < count; i++) {
+        qsort(samples[i], rounds, sizeof samples[i][0], compare);
+        contenders[i].best = samples[i][0];
+        contenders[i].median = samples[i][rounds / 2];
+    }
+}

@@ -1,0 +1,23 @@
+/*
+ * Times contenders by turns, so that all of them see the machine in the same state.
+ */
+#ifndef TIMING_H
+#define TIMING_H
+
+/* Nanoseconds of a clock that only goes on. */
+double now(void);
+
+/* A contender, and what it took for one run of its work. */
+struct contender {
+    double (*run)(const void *work, unsigned times); /* gives the nanoseconds that so many runs took */
+    const void *work;
+    double best, median; /* nanoseconds */
+};
+
+/* Keeps the program on the processor that it is on, where that can be done. */
+void stay_on_one_processor(void);
+
+/* Times each contender in turn, again and again, for about so many seconds and at least 100 times. */
+void time_by_turns(struct contender *contenders, unsigned count, double seconds);
+
+#endif
