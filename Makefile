@@ -4,7 +4,7 @@ PROGRAM = target/bin/narrow_lines
 HOSTS = target/hosts
 TOOLS = target/tools
 
-.PHONY: run example check lib program hosts enumerate lines tools test
+.PHONY: run example check lib program hosts enumerate lines tools bench test
 
 # The line program on 01's sample.
 run: program
@@ -48,11 +48,27 @@ lines: program $(HOSTS)/lines
 tools: $(TOOLS)/records $(HOSTS)/tools
 	@$(HOSTS)/tools $(TOOLS)/records tools/sample.txt
 
+# Times the product beside the plain narrow and, where they are installed, Gecode; compares their answers first. It takes
+# minutes, and is no part of the gate.
+bench: program $(HOSTS)/bench $(HOSTS)/plain_lines
+	@CC=$(CC) hosts/bench/run $(HOSTS)/bench $(PROGRAM) $(HOSTS)/plain_lines
+
 TEST_C = $(addprefix hosts/c/, test.c test_tidy_try.c test_narrow.c faults.c record.c lent.c stack.c count.c)
 LINES_C = $(addprefix hosts/c/, lines.c lines_records.c lines_streams.c lines_pipes.c faults.c record.c random.c plain.c \
-    process.c stream.c count.c)
+    plain_line.c process.c stream.c count.c)
 TOOLS_C = $(addprefix hosts/c/, tools.c record.c process.c stream.c count.c)
-HEADERS = $(wildcard hosts/c/*.h) include/fekhvina.h
+BENCH_C = $(addprefix hosts/bench/, bench.c growth.c narrows.c streams.c timing.c workloads.c) \
+    $(addprefix hosts/c/, plain.c plain_line.c process.c random.c record.c stream.c)
+PLAIN_LINES_C = hosts/bench/plain_lines.c $(addprefix hosts/c/, plain.c plain_line.c stream.c)
+HEADERS = $(wildcard hosts/c/*.h hosts/bench/*.h) include/fekhvina.h
+
+# Gecode, where the Debian package libgecode-dev has put it.
+ifneq ($(wildcard /usr/include/gecode/int.hh),)
+GECODE = $(HOSTS)/gecode.o
+GECODE_LIBS = -lgecodeint -lgecodekernel -lgecodesupport -lstdc++
+else
+GECODE = hosts/bench/gecode_none.c
+endif
 
 $(HOSTS)/test: lib $(TEST_C) $(HEADERS)
 	@$(CC) $(CFLAGS) -o $@ $(TEST_C) $(LIB)
@@ -67,6 +83,17 @@ $(HOSTS)/lines: $(LINES_C) $(HEADERS)
 $(HOSTS)/tools: $(TOOLS_C) $(HEADERS)
 	@mkdir -p $(HOSTS)
 	@$(CC) $(CFLAGS) -o $@ $(TOOLS_C)
+
+$(HOSTS)/bench: lib $(BENCH_C) $(GECODE) $(HEADERS)
+	@$(CC) $(CFLAGS) -Ihosts/c -o $@ $(BENCH_C) $(GECODE) $(LIB) $(GECODE_LIBS)
+
+$(HOSTS)/gecode.o: hosts/bench/gecode.cc $(HEADERS)
+	@mkdir -p $(HOSTS)
+	@$(CXX) -std=c++11 -Wall -Wextra -Werror -O2 -Iinclude -Ihosts/c -c -o $@ $<
+
+$(HOSTS)/plain_lines: $(PLAIN_LINES_C) $(HEADERS)
+	@mkdir -p $(HOSTS)
+	@$(CC) $(CFLAGS) -Ihosts/c -o $@ $(PLAIN_LINES_C)
 
 $(TOOLS)/records: tools/records.c
 	@mkdir -p $(TOOLS)

@@ -3,6 +3,7 @@
 
 #include "fekhvina.h"
 #include "plain.h"
+#include "plain_line.h"
 #include "timing.h"
 
 #include <stdio.h>
@@ -35,7 +36,6 @@ double run_plain(const void *workload, unsigned times)
 
 const char *verdict_of_both(const struct workload *w)
 {
-    static const char *const words[] = {"", "none", "all", "one", "some"};
     struct plain_answer plain = plain_narrow(w->book.at, w->book.len, w->mask.at, w->mask.len, plain_out, ROOM);
     uint32_t refusal = fekhvina_narrow_refusal(w->book.at, w->book.len, w->mask.at, w->mask.len, out, ROOM);
     uint32_t verdict = fekhvina_narrow_verdict(w->book.at, w->book.len, w->mask.at, w->mask.len, out, ROOM);
@@ -48,5 +48,5 @@ const char *verdict_of_both(const struct workload *w)
         printf("%s: refused %u, or none\n", w->name, (unsigned)refusal);
         exit(1);
     }
-    return words[verdict];
+    return verdict_words[verdict];
 }

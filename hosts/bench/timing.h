@@ -4,6 +4,8 @@
 #ifndef TIMING_H
 #define TIMING_H
 
+enum { CONTENDERS = 3 }; /* at most */
+
 /* Nanoseconds of a clock that only goes on. */
 double now(void);
 
@@ -14,10 +16,10 @@ struct contender {
     double best, median; /* nanoseconds */
 };
 
-/* Keeps the program on the processor that it is on, where that can be done. */
+/* Keeps the program, and those that it starts, on the processor that it is on, where that can be done. */
 void stay_on_one_processor(void);
 
-/* Times each contender in turn, again and again, for about so many seconds and at least 100 times. */
-void time_by_turns(struct contender *contenders, unsigned count, double seconds);
+/* Times each contender in turn, again and again: at least so many rounds, and for about so many seconds. */
+void time_by_turns(struct contender *contenders, unsigned count, unsigned rounds, double seconds);
 
 #endif

@@ -2,35 +2,17 @@
 #include "books.h"
 #include "lines.h"
 #include "plain.h"
+#include "plain_line.h"
 #include "random.h"
 
 #include <stdio.h>
 
 static struct bytes book, mask;
 
-/* The sum of a block's bound, at this place in the block, over a written mask. */
-static unsigned sum(const uint8_t *record, size_t bytes, size_t place)
-{
-    unsigned total = 0;
-    for (size_t at = 6; at < bytes; at += 12) {
-        total += record[at + place] + 256u * record[at + place + 1];
-    }
-    return total;
-}
-
 /* The line of `mask` by `book`, as the plain narrow has it. */
 static void expect_plain(unsigned number)
 {
-    static const char *const words[] = {"", "none", "all", "one", "some"};
-    static uint8_t out[6 + 12 * 1024];
-    struct plain_answer answer = plain_narrow(book.at, book.len, mask.at, mask.len, out, sizeof out);
-    if (answer.refusal != 0) {
-        stream_print(&expected, "%u refused %u 0 0\n", number, answer.refusal);
-    } else {
-        stream_print(&expected, "%u %s %u %u %u\n", number, words[answer.verdict],
-                     (unsigned)(answer.bytes > 0 ? (answer.bytes - 6) / 12 : 0), sum(out, answer.bytes, 8),
-                     sum(out, answer.bytes, 10));
-    }
+    plain_line(&expected, number, book.at, book.len, mask.at, mask.len);
 }
 
 /* Begins a case: `book`, and random masks for it, one in ten damaged, at most so many and until there are so many

@@ -1,0 +1,16 @@
+/*
+ * The parts of the benchmark. Each compares the answers first, and ends the program where they differ.
+ */
+#ifndef BENCH_H
+#define BENCH_H
+
+/* The workloads: the product beside the plain narrow and, where it is built in, Gecode. */
+void bench_workloads(void);
+
+/* One form, again and again in a mask: how the time grows with the blocks. */
+void bench_growth(void);
+
+/* Streams of masks: the line program beside one that has the plain narrow. */
+void bench_streams(const char *program, const char *plain_program);
+
+#endif

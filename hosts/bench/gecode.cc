@@ -1,0 +1,165 @@
+// Gecode's extensional on a workload: see gecode.h.
+#include <gecode/int.hh>
+
+#include <memory>
+#include <vector>
+
+extern "C" {
+#include "fekhvina.h"
+#include "gecode.h"
+#include "timing.h"
+
+extern const int gecode_built = 1;
+}
+
+using namespace Gecode;
+
+namespace {
+
+const int NO_LETTER = 64;
+
+struct Block {
+    uint64_t set;
+    int lower, upper;
+};
+
+std::vector<Block> blocks_of(const bytes &mask)
+{
+    std::vector<Block> blocks;
+    for (size_t at = 6; at < mask.len; at += 12) {
+        const uint8_t *block = mask.at + at;
+        uint64_t set = 0;
+        for (int i = 0; i < 8; i++) {
+            set |= static_cast<uint64_t>(block[i]) << (8 * i);
+        }
+        blocks.push_back({set, block[8] + 256 * block[9], block[10] + 256 * block[11]});
+    }
+    return blocks;
+}
+
+DFA automaton(const bytes &book, bool padded)
+{
+    int states = book.at[4], letters = book.at[5];
+    std::vector<DFA::Transition> moves;
+    std::vector<int> accepting;
+    for (int q = 0; q < states; q++) {
+        for (int c = 0; c < letters; c++) {
+            int next = book.at[15 + q * letters + c];
+            if (next != 255) {
+                moves.push_back(DFA::Transition(q, c, next));
+            }
+        }
+        if (padded) {
+            moves.push_back(DFA::Transition(q, NO_LETTER, q));
+        }
+        if (book.at[7 + q / 8] >> q % 8 & 1) {
+            accepting.push_back(q);
+        }
+    }
+    moves.push_back(DFA::Transition(-1, 0, 0));
+    accepting.push_back(-1);
+    return DFA(book.at[6], moves.data(), accepting.data());
+}
+
+// The letters of a set, and maybe none.
+IntSet domain(uint64_t set, bool optional)
+{
+    std::vector<int> letters;
+    for (int c = 0; c < 64; c++) {
+        if (set >> c & 1) {
+            letters.push_back(c);
+        }
+    }
+    if (optional) {
+        letters.push_back(NO_LETTER);
+    }
+    return IntSet(letters.data(), static_cast<int>(letters.size()));
+}
+
+class Form : public Space {
+public:
+    IntVarArray places;
+
+    explicit Form(const std::vector<Block> &blocks)
+    {
+        IntVarArgs variables;
+        for (const Block &block : blocks) {
+            IntSet mandatory = domain(block.set, false), optional = domain(block.set, true);
+            for (int j = 0; j < block.upper; j++) {
+                variables << IntVar(*this, j < block.lower ? mandatory : optional);
+            }
+        }
+        places = IntVarArray(*this, variables);
+    }
+
+    explicit Form(Form &form) : Space(form)
+    {
+        places.update(*this, form.places);
+    }
+
+    Space *copy() override
+    {
+        return new Form(*this);
+    }
+
+    // Whether some word of the mask is accepted.
+    bool narrow(const DFA &dfa)
+    {
+        extensional(*this, places, dfa);
+        return status() != SS_FAILED;
+    }
+
+    uint64_t letters(int place) const
+    {
+        uint64_t set = 0;
+        for (IntVarValues value(places[place]); value(); ++value) {
+            set |= value.val() < NO_LETTER ? UINT64_C(1) << value.val() : 0;
+        }
+        return set;
+    }
+};
+
+std::vector<Block> blocks;
+DFA dfa;
+
+} // namespace
+
+extern "C" int gecode_agrees(const struct workload *w)
+{
+    int at = 0;
+    bool padded = false;
+    blocks = blocks_of(w->mask);
+    for (const Block &block : blocks) {
+        padded |= block.lower < block.upper;
+    }
+    dfa = automaton(w->book, padded);
+    Form form(blocks);
+    if (!form.narrow(dfa)) {
+        return 0;
+    }
+    for (uint32_t i = 0; i < blocks.size(); i++) {
+        uint64_t part = fekhvina_place_set(w->book.at, w->book.len, w->mask.at, w->mask.len, i + 1, 0);
+        for (int j = 1; j <= blocks[i].upper; j++, at++) {
+            uint64_t found = form.letters(at);
+            if (j > blocks[i].lower ? (found & ~part) != 0
+                                    : found != fekhvina_place_set(w->book.at, w->book.len, w->mask.at, w->mask.len, i + 1,
+                                                                  static_cast<uint32_t>(j))) {
+                return 0;
+            }
+        }
+    }
+    return 1;
+}
+
+extern "C" double run_gecode(const void *, unsigned times)
+{
+    std::vector<std::unique_ptr<Form>> forms;
+    for (unsigned i = 0; i < times; i++) {
+        forms.push_back(std::unique_ptr<Form>(new Form(blocks)));
+    }
+    double start = now();
+    for (unsigned i = 0; i < times; i++) {
+        forms[i]->narrow(dfa);
+    }
+    return now() - start;
+}
