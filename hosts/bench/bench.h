@@ -4,8 +4,11 @@
 #ifndef BENCH_H
 #define BENCH_H
 
-/* The workloads: the product beside the plain narrow and, where it is built in, Gecode. */
+/* The workloads: the product beside the plain narrow. */
 void bench_workloads(void);
+
+/* The workloads by Gecode, where it is built in; behind bench_workloads. */
+void bench_gecode(void);
 
 /* One form, again and again in a mask: how the time grows with the blocks. */
 void bench_growth(void);

@@ -11,12 +11,14 @@
 /* Whether Gecode is built in; where it is not, the others do nothing. */
 extern const int gecode_built;
 
-/* Makes the automaton of a workload, which is not timed, and posts and propagates the constraint: whether the domains of
-   the mandatory places are the sets that place returns, and those of the optional parts lie in theirs. */
+/* Whether the domains of the mandatory places are the sets that place returns, and those of the optional parts lie in theirs. */
 int gecode_agrees(const struct workload *workload);
 
-/* Posts and propagates the constraint of the workload that gecode_agrees last was given, so many times; the nanoseconds. The
-   variables are made before, which is not timed. Posting does most of the work: it builds the layers and prunes. */
+/* A whole narrow, from records to the letters of each place, so many times; the nanoseconds. */
 double run_gecode(const void *workload, unsigned times);
+
+/* The constraint alone, posted and propagated: the automaton and the variables are made before, which is not timed. It is the
+   posting that does most of the work: it builds the layers and prunes. */
+double run_gecode_alone(const void *workload, unsigned times);
 
 #endif

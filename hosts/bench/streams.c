@@ -112,11 +112,12 @@ static void bench_stream(const char *name, unsigned masks, const char *program, 
         printf("%s: the line program and the plain one differ\n", name);
         exit(1);
     }
-    struct contender by[] = {{run_program, program, 0, 0}, {run_program, plain_program, 0, 0}};
+    struct contender product = {run_program, program, 0, 0}, plain = {run_program, plain_program, 0, 0};
+    struct contender *by[] = {&product, &plain};
     time_by_turns(by, 2, ROUNDS, 0);
-    printf("%-8s %7u %9.1f %9.1f %9.1f %9.1f %7.3f %7.3f %12.0f\n", name, masks, by[0].best / 1e6, by[0].median / 1e6,
-           by[1].best / 1e6, by[1].median / 1e6, by[0].best / by[1].best, by[0].median / by[1].median,
-           masks / (by[0].best / 1e9));
+    printf("%-8s %7u %9.1f %9.1f %9.1f %9.1f %7.3f %7.3f %12.0f\n", name, masks, product.best / 1e6,
+           product.median / 1e6, plain.best / 1e6, plain.median / 1e6, product.best / plain.best,
+           product.median / plain.median, masks / (product.best / 1e9));
     fflush(stdout);
     free(printed.at);
     free(expected.at);

@@ -7,7 +7,7 @@
 #include <stdlib.h>
 #include <time.h>
 
-enum { SAMPLES = 20000, SHORTEST = 20000 /* nanoseconds of a sample */ };
+enum { CONTENDERS = 2, SAMPLES = 20000, SHORTEST = 100000 /* nanoseconds of a sample */ };
 
 static double samples[CONTENDERS][SAMPLES];
 
@@ -46,22 +46,22 @@ static int compare(const void *a, const void *b)
     return (x > y) - (x < y);
 }
 
-void time_by_turns(struct contender *contenders, unsigned count, unsigned rounds, double seconds)
+void time_by_turns(struct contender *const *contenders, unsigned count, unsigned rounds, double seconds)
 {
     unsigned times[CONTENDERS], done = 0;
     for (unsigned i = 0; i < count; i++) {
-        times[i] = runs_of_a_sample(&contenders[i]);
+        times[i] = runs_of_a_sample(contenders[i]);
     }
     double start = now();
     while (done < SAMPLES && (done < rounds || now() - start < seconds * 1e9)) {
         for (unsigned i = 0; i < count; i++) {
-            samples[i][done] = contenders[i].run(contenders[i].work, times[i]) / times[i];
+            samples[i][done] = contenders[i]->run(contenders[i]->work, times[i]) / times[i];
         }
         done++;
     }
     for (unsigned i = 0; i < count; i++) {
         qsort(samples[i], done, sizeof samples[i][0], compare);
-        contenders[i].best = samples[i][0];
-        contenders[i].median = samples[i][done / 2];
+        contenders[i]->best = samples[i][0];
+        contenders[i]->median = samples[i][done / 2];
     }
 }

@@ -4,8 +4,6 @@
 #ifndef TIMING_H
 #define TIMING_H
 
-enum { CONTENDERS = 3 }; /* at most */
-
 /* Nanoseconds of a clock that only goes on. */
 double now(void);
 
@@ -19,7 +17,8 @@ struct contender {
 /* Keeps the program, and those that it starts, on the processor that it is on, where that can be done. */
 void stay_on_one_processor(void);
 
-/* Times each contender in turn, again and again: at least so many rounds, and for about so many seconds. */
-void time_by_turns(struct contender *contenders, unsigned count, unsigned rounds, double seconds);
+/* Times each of these contenders, at most two, in turn, again and again: at least so many rounds, and for about so many
+   seconds. */
+void time_by_turns(struct contender *const *contenders, unsigned count, unsigned rounds, double seconds);
 
 #endif
