@@ -50,7 +50,8 @@ void bench_gecode(void)
     }
     printf("\nGecode's extensional, in microseconds, and how many times the product's best that is\n\n");
     printf("%-9s %31s %39s\n", "", "from records", "posted and propagated alone");
-    printf("%-9s %11s %11s %7s %7s %11s %11s %7s\n", "workload", "best", "median", "times", "target", "best", "median", "times");
+    printf("%-9s %11s %11s %7s %7s %11s %11s %7s\n", "workload", "best", "median", "times", "target", "best", "median",
+           "times");
     for (unsigned i = 0; i < WORKLOADS; i++) {
         const struct workload *w = &workloads[i];
         struct contender whole = {run_gecode, w, 0, 0}, alone = {run_gecode_alone, w, 0, 0};
@@ -71,10 +72,11 @@ void bench_gecode(void)
 static int run_only(const char *name, const char *which, const char *times)
 {
     const struct workload *w = workload_named(name);
+    double (*run)(const void *, unsigned) = strcmp(which, "plain") == 0 ? run_plain : run_product;
     if (w == NULL) {
         return 2;
     }
-    (strcmp(which, "plain") == 0 ? run_plain : run_product)(w, (unsigned)atoi(times));
+    run(w, (unsigned)atoi(times));
     return 0;
 }
 

@@ -18,21 +18,21 @@ namespace {
 
 const int NO_LETTER = 64;
 
-struct Block {
-    uint64_t set;
-    int lower, upper;
-};
-
-std::vector<Block> blocks_of(const bytes &mask)
+uint64_t number(const uint8_t *at, int width)
 {
-    std::vector<Block> blocks;
+    uint64_t value = 0;
+    for (int i = 0; i < width; i++) {
+        value |= static_cast<uint64_t>(at[i]) << (8 * i);
+    }
+    return value;
+}
+
+std::vector<block> blocks_of(const bytes &mask)
+{
+    std::vector<block> blocks;
     for (size_t at = 6; at < mask.len; at += 12) {
-        const uint8_t *block = mask.at + at;
-        uint64_t set = 0;
-        for (int i = 0; i < 8; i++) {
-            set |= static_cast<uint64_t>(block[i]) << (8 * i);
-        }
-        blocks.push_back({set, block[8] + 256 * block[9], block[10] + 256 * block[11]});
+        blocks.push_back({number(mask.at + at, 8), static_cast<uint16_t>(number(mask.at + at + 8, 2)),
+                          static_cast<uint16_t>(number(mask.at + at + 10, 2))});
     }
     return blocks;
 }
@@ -80,13 +80,13 @@ class Form : public Space {
 public:
     IntVarArray places;
 
-    explicit Form(const std::vector<Block> &blocks)
+    explicit Form(const std::vector<block> &blocks)
     {
         IntVarArgs variables;
-        for (const Block &block : blocks) {
-            IntSet mandatory = domain(block.set, false), optional = domain(block.set, true);
-            for (int j = 0; j < block.upper; j++) {
-                variables << IntVar(*this, j < block.lower ? mandatory : optional);
+        for (const block &each : blocks) {
+            IntSet mandatory = domain(each.set, false), optional = domain(each.set, true);
+            for (int j = 0; j < each.upper; j++) {
+                variables << IntVar(*this, j < each.lower ? mandatory : optional);
             }
         }
         places = IntVarArray(*this, variables);
@@ -121,18 +121,25 @@ public:
 
 // The blocks of a mask, and the automaton of a book for it.
 struct Model {
-    std::vector<Block> blocks;
+    std::vector<block> blocks;
     DFA dfa;
 
     explicit Model(const struct workload *w) : blocks(blocks_of(w->mask))
     {
         bool padded = false;
-        for (const Block &block : blocks) {
-            padded |= block.lower < block.upper;
+        for (const block &each : blocks) {
+            padded |= each.lower < each.upper;
         }
         dfa = automaton(w->book, padded);
     }
 };
+
+// What place returns for a place of a block; both from 1, place 0 for the optional part.
+uint64_t place_set(const struct workload *w, int block, int place)
+{
+    return fekhvina_place_set(w->book.at, w->book.len, w->mask.at, w->mask.len, static_cast<uint32_t>(block),
+                              static_cast<uint32_t>(place));
+}
 
 volatile uint64_t seen;
 
@@ -142,18 +149,15 @@ extern "C" int gecode_agrees(const struct workload *w)
 {
     Model model(w);
     Form form(model.blocks);
-    const std::vector<Block> &blocks = model.blocks;
-    int at = 0;
+    int at = 0, block = 0;
     if (!form.narrow(model.dfa)) {
         return 0;
     }
-    for (uint32_t i = 0; i < blocks.size(); i++) {
-        uint64_t part = fekhvina_place_set(w->book.at, w->book.len, w->mask.at, w->mask.len, i + 1, 0);
-        for (int j = 1; j <= blocks[i].upper; j++, at++) {
+    for (const struct block &each : model.blocks) {
+        block++;
+        for (int j = 1; j <= each.upper; j++, at++) {
             uint64_t found = form.letters(at);
-            if (j > blocks[i].lower ? (found & ~part) != 0
-                                    : found != fekhvina_place_set(w->book.at, w->book.len, w->mask.at, w->mask.len, i + 1,
-                                                                  static_cast<uint32_t>(j))) {
+            if (j <= each.lower ? found != place_set(w, block, j) : (found & ~place_set(w, block, 0)) != 0) {
                 return 0;
             }
         }

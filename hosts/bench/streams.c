@@ -92,6 +92,11 @@ static double run_program(const void *path, unsigned times)
     return taken;
 }
 
+static void remove_file(void)
+{
+    remove(file);
+}
+
 static void write_file(void)
 {
     FILE *to = fopen(file, "wb");
@@ -132,6 +137,7 @@ void bench_streams(const char *program, const char *plain_program)
         exit(2);
     }
     close(made);
+    atexit(remove_file);
     printf("\nStreams of masks from a file, whole runs of the line program, in milliseconds\n\n");
     printf("%-16s %19s %19s %15s\n", "", "product", "plain", "product/plain");
     printf("%-8s %7s %9s %9s %9s %9s %7s %7s %12s\n", "stream", "masks", "best", "median", "best", "median", "best", "median",
@@ -141,5 +147,4 @@ void bench_streams(const char *program, const char *plain_program)
     bench_stream("height", HEIGHTS_FED, program, plain_program);
     feed_forms(workload_named("utility"));
     bench_stream("utility", FORMS_FED, program, plain_program);
-    remove(file);
 }
