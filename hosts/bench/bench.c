@@ -6,6 +6,7 @@
 
 #include "gecode.h"
 #include "narrows.h"
+#include "random.h"
 #include "timing.h"
 
 #include <stdio.h>
@@ -41,6 +42,32 @@ void bench_workloads(void)
     }
 }
 
+static void demand_gecode_agrees(const struct workload *workload)
+{
+    if (!gecode_agrees(workload)) {
+        printf("%s: the product and Gecode differ\n", workload->name);
+        exit(1);
+    }
+}
+
+/* The workloads lose few letters; of small random masks many are left with few, or none. */
+static void compare_random(void)
+{
+    enum { SEEDS = 1000, LONGEST_MASK = 100 };
+    static struct workload random = {.name = "random"};
+    unsigned compared = 0;
+    for (unsigned seed = 1; seed <= SEEDS; seed++) {
+        random_seed(seed);
+        random_book(&random.book);
+        random_mask(&random.mask, &random.book);
+        if (random.mask.len <= LONGEST_MASK) {
+            demand_gecode_agrees(&random);
+            compared++;
+        }
+    }
+    printf("\nGecode's extensional and the product agree on %u random masks\n", compared);
+}
+
 /* Not by turns with the product, whose memory it would push out of the caches. */
 void bench_gecode(void)
 {
@@ -48,6 +75,7 @@ void bench_gecode(void)
         printf("\nGecode is not installed, and left out\n");
         return;
     }
+    compare_random();
     printf("\nGecode's extensional, in microseconds, and how many times the product's best that is\n\n");
     printf("%-9s %31s %39s\n", "", "from records", "posted and propagated alone");
     printf("%-9s %11s %11s %7s %7s %11s %11s %7s\n", "workload", "best", "median", "times", "target", "best", "median",
@@ -56,10 +84,7 @@ void bench_gecode(void)
         const struct workload *w = &workloads[i];
         struct contender whole = {run_gecode, w, 0, 0}, alone = {run_gecode_alone, w, 0, 0};
         struct contender *by[] = {&whole, &alone};
-        if (!gecode_agrees(w)) {
-            printf("%s: the product and Gecode differ\n", w->name);
-            exit(1);
-        }
+        demand_gecode_agrees(w);
         time_by_turns(by, 2, GECODE_ROUNDS, 1);
         double times = whole.best / product_best[i];
         printf("%-9s %11.2f %11.2f %7.1f %7d %11.2f %11.2f %7.1f %s\n", w->name, whole.best / 1e3, whole.median / 1e3, times,

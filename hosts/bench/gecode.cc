@@ -141,28 +141,36 @@ uint64_t place_set(const struct workload *w, int block, int place)
                               static_cast<uint32_t>(place));
 }
 
+bool same_letters(const Form &form, const std::vector<block> &blocks, const struct workload *w)
+{
+    int at = 0, block = 0;
+    for (const struct block &each : blocks) {
+        block++;
+        for (int j = 1; j <= each.upper; j++, at++) {
+            uint64_t found = form.letters(at);
+            if (j <= each.lower ? found != place_set(w, block, j) : (found & ~place_set(w, block, 0)) != 0) {
+                return false;
+            }
+        }
+    }
+    return true;
+}
+
 volatile uint64_t seen;
 
 } // namespace
 
 extern "C" int gecode_agrees(const struct workload *w)
 {
-    Model model(w);
-    Form form(model.blocks);
-    int at = 0, block = 0;
-    if (!form.narrow(model.dfa)) {
-        return 0;
+    static uint8_t out[6 + 12 * 1024];
+    bool none = fekhvina_narrow_verdict(w->book.at, w->book.len, w->mask.at, w->mask.len, out, sizeof out) == 1;
+    try {
+        Model model(w);
+        Form form(model.blocks);
+        return form.narrow(model.dfa) ? !none && same_letters(form, model.blocks, w) : none;
+    } catch (const Int::VariableEmptyDomain &) { // a mandatory place with no letter
+        return none;
     }
-    for (const struct block &each : model.blocks) {
-        block++;
-        for (int j = 1; j <= each.upper; j++, at++) {
-            uint64_t found = form.letters(at);
-            if (j <= each.lower ? found != place_set(w, block, j) : (found & ~place_set(w, block, 0)) != 0) {
-                return 0;
-            }
-        }
-    }
-    return 1;
 }
 
 extern "C" double run_gecode(const void *workload, unsigned times)

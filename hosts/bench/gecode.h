@@ -11,7 +11,8 @@
 /* Whether Gecode is built in; where it is not, the others do nothing. */
 extern const int gecode_built;
 
-/* Whether the domains of the mandatory places are the sets that place returns, and those of optional parts lie in theirs. */
+/* Whether both find no legal word, or both some, and then the domains of the mandatory places are the sets that place returns,
+   and those of the optional parts lie in theirs. */
 int gecode_agrees(const struct workload *workload);
 
 /* A whole narrow, from records to the letters of each place, so many times; the nanoseconds. */
