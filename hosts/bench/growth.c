@@ -33,10 +33,13 @@ void bench_growth(void)
         make_form(&form, times);
         const char *verdict = verdict_of_both(&form);
         struct contender product = {run_product, &form, 0, 0}, *by[] = {&product};
-        time_by_turns(by, 1, ROUNDS, 0.5);
+        const char *disturbed = time_by_turns(by, 1, ROUNDS, 0.5);
         printf("%5u %6u %6u %-7s %10.2f %10.2f", times, BLOCKS * times, 16 * times, verdict, product.best / 1e3,
                product.best / 1e3 / (BLOCKS * times));
-        printf(times > 1 ? " %14.2f\n" : "\n", product.best / former);
+        if (times > 1) {
+            printf(" %14.2f", product.best / former);
+        }
+        printf("%s\n", disturbed);
         former = product.best;
     }
 }

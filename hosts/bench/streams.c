@@ -119,10 +119,10 @@ static void bench_stream(const char *name, unsigned masks, const char *program, 
     }
     struct contender product = {run_program, program, 0, 0}, plain = {run_program, plain_program, 0, 0};
     struct contender *by[] = {&product, &plain};
-    time_by_turns(by, 2, ROUNDS, 0);
-    printf("%-8s %7u %9.1f %9.1f %9.1f %9.1f %7.3f %7.3f %12.0f\n", name, masks, product.best / 1e6,
+    const char *disturbed = time_by_turns(by, 2, ROUNDS, 0);
+    printf("%-8s %7u %9.1f %9.1f %9.1f %9.1f %7.3f %7.3f %12.0f%s\n", name, masks, product.best / 1e6,
            product.median / 1e6, plain.best / 1e6, plain.median / 1e6, product.best / plain.best,
-           product.median / plain.median, masks / (product.best / 1e9));
+           product.median / plain.median, masks / (product.best / 1e9), disturbed);
     fflush(stdout);
     free(printed.at);
     free(expected.at);

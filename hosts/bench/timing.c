@@ -5,6 +5,7 @@
 #include <sched.h>
 #include <stdio.h>
 #include <stdlib.h>
+#include <sys/resource.h>
 #include <time.h>
 
 enum { CONTENDERS = 2, SAMPLES = 20000, SHORTEST = 100000 /* nanoseconds of a sample */ };
@@ -30,6 +31,17 @@ void stay_on_one_processor(void)
 #endif
 }
 
+/* Nanoseconds of processor that this program had, and those that it started and that have ended. */
+static double processor_time(void)
+{
+    struct rusage self, children;
+    getrusage(RUSAGE_SELF, &self);
+    getrusage(RUSAGE_CHILDREN, &children);
+    return 1e9 * (double)(self.ru_utime.tv_sec + self.ru_stime.tv_sec + children.ru_utime.tv_sec + children.ru_stime.tv_sec) +
+           1e3 * (double)(self.ru_utime.tv_usec + self.ru_stime.tv_usec + children.ru_utime.tv_usec +
+                          children.ru_stime.tv_usec);
+}
+
 /* How many runs make a sample that is long enough for the clock. */
 static unsigned runs_of_a_sample(const struct contender *contender)
 {
@@ -46,22 +58,24 @@ static int compare(const void *a, const void *b)
     return (x > y) - (x < y);
 }
 
-void time_by_turns(struct contender *const *contenders, unsigned count, unsigned rounds, double seconds)
+const char *time_by_turns(struct contender *const *contenders, unsigned count, unsigned rounds, double seconds)
 {
     unsigned times[CONTENDERS], done = 0;
     for (unsigned i = 0; i < count; i++) {
         times[i] = runs_of_a_sample(contenders[i]);
     }
-    double start = now();
+    double start = now(), had = processor_time();
     while (done < SAMPLES && (done < rounds || now() - start < seconds * 1e9)) {
         for (unsigned i = 0; i < count; i++) {
             samples[i][done] = contenders[i]->run(contenders[i]->work, times[i]) / times[i];
         }
         done++;
     }
+    double share = (processor_time() - had) / (now() - start);
     for (unsigned i = 0; i < count; i++) {
         qsort(samples[i], done, sizeof samples[i][0], compare);
         contenders[i]->best = samples[i][0];
         contenders[i]->median = samples[i][done / 2];
     }
+    return share < 0.95 ? " disturbed" : "";
 }

@@ -18,7 +18,8 @@ struct contender {
 void stay_on_one_processor(void);
 
 /* Times each of these contenders, at most two, in turn, again and again: at least so many rounds, and for about so many
-   seconds. */
-void time_by_turns(struct contender *const *contenders, unsigned count, unsigned rounds, double seconds);
+   seconds. Gives what is to be said of it: "" or, where other programs had over a twentieth of the processor meanwhile,
+   " disturbed"; long runs are then found longer than they are, short ones are not. */
+const char *time_by_turns(struct contender *const *contenders, unsigned count, unsigned rounds, double seconds);
 
 #endif
