@@ -1,6 +1,7 @@
 /*
- * The benchmark: see bench.h. Usage: bench PROGRAM PLAIN_PROGRAM, the paths of the line program and of plain_lines; or bench
- * --count WORKLOAD product|plain TIMES, which only runs that narrow so many times, for a tool that counts instructions.
+ * The benchmark: see bench.h. Usage: bench PROGRAM PLAIN_PROGRAM, the paths of the line program and of plain_lines; bench, the
+ * workloads beside the plain narrow alone; or bench --count WORKLOAD product|plain TIMES, which only runs that narrow so many
+ * times, for a tool that counts instructions.
  */
 #include "bench.h"
 
@@ -94,32 +95,30 @@ void bench_gecode(void)
     }
 }
 
-static int run_only(const char *name, const char *which, const char *times)
+static int run_only(const struct workload *workload, const char *which, const char *times)
 {
-    const struct workload *w = workload_named(name);
     double (*run)(const void *, unsigned) = strcmp(which, "plain") == 0 ? run_plain : run_product;
-    if (w == NULL) {
-        return 2;
-    }
-    run(w, (unsigned)atoi(times));
+    run(workload, (unsigned)atoi(times));
     return 0;
 }
 
 int main(int argc, char **argv)
 {
     workloads_make();
-    if (argc == 5 && strcmp(argv[1], "--count") == 0) {
-        return run_only(argv[2], argv[3], argv[4]);
+    if (argc == 5 && strcmp(argv[1], "--count") == 0 && workload_named(argv[2]) != NULL) {
+        return run_only(workload_named(argv[2]), argv[3], argv[4]);
     }
-    if (argc != 3) {
-        fprintf(stderr, "usage: bench PROGRAM PLAIN_PROGRAM\n");
+    if (argc != 1 && argc != 3) {
+        fprintf(stderr, "usage: bench [PROGRAM PLAIN_PROGRAM], or bench --count WORKLOAD product|plain TIMES\n");
         return 2;
     }
     stay_on_one_processor();
     printf("A row is disturbed where other programs had over a twentieth of the processor: its long times are too long.\n\n");
     bench_workloads();
-    bench_gecode();
-    bench_growth();
-    bench_streams(argv[1], argv[2]);
+    if (argc == 3) {
+        bench_gecode();
+        bench_growth();
+        bench_streams(argv[1], argv[2]);
+    }
     return 0;
 }
