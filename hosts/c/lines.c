@@ -69,7 +69,7 @@ void ends(const char *name, struct process *process, int may_die)
 
 void prints_fed_by(const char *name, size_t piece)
 {
-    struct start start = {program, NULL, NULL, 0};
+    struct start start = {program, NULL, NULL, 0, NULL};
     struct process process;
     process_start(&process, &start);
     process_feed(&process, fed.at, fed.len, piece);

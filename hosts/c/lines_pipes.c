@@ -8,7 +8,7 @@
 /* Begins a case in which the program is fed while it runs. */
 static void begin_running(struct process *process, const char *in, const char *out, int ignores_sigpipe)
 {
-    struct start start = {program, in, out, ignores_sigpipe};
+    struct start start = {program, in, out, ignores_sigpipe, NULL};
     begin();
     process_start(process, &start);
 }

@@ -14,7 +14,7 @@
 #include <time.h>
 #include <unistd.h>
 
-enum { PATIENCE = 20, READ = 0, WRITE = 1 };
+enum { PATIENCE = 20, READ = 0, WRITE = 1, WORDS = 16 };
 
 static time_t happened; /* when the program last did something */
 
@@ -48,6 +48,17 @@ static void close_end(int *end)
     }
 }
 
+/* Runs the program in place of this one; comes back only where it can't. */
+static void run_program(const struct start *start)
+{
+    const char *words[WORDS] = {start->path};
+    for (int i = 0; start->arguments != NULL && start->arguments[i] != NULL; i++) {
+        demand(i + 2 < WORDS, "too many arguments");
+        words[i + 1] = start->arguments[i];
+    }
+    execv(start->path, (char *const *)words);
+}
+
 /* In the new process: becomes the program. */
 static void become(const struct start *start, int in, int out, int err)
 {
@@ -55,7 +66,7 @@ static void become(const struct start *start, int in, int out, int err)
     out = start->out != NULL ? open(start->out, O_WRONLY) : out;
     signal(SIGPIPE, start->ignores_sigpipe ? SIG_IGN : SIG_DFL);
     if (dup2(in, STDIN_FILENO) >= 0 && dup2(out, STDOUT_FILENO) >= 0 && dup2(err, STDERR_FILENO) >= 0) {
-        execl(start->path, start->path, (char *)NULL);
+        run_program(start);
     }
     perror(start->path);
     _exit(127);

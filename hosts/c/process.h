@@ -14,6 +14,7 @@ struct start {
     const char *path;
     const char *in, *out; /* a file for its standard input or output; NULL for a pipe to us */
     int ignores_sigpipe;
+    const char *const *arguments; /* behind the path, NULL behind the last; NULL for none */
 };
 
 struct process {

@@ -39,13 +39,13 @@ static const struct stream nothing = {NULL, 0, 0};
 
 static void writes_stream(const char *name, const struct stream *text, const struct stream *written)
 {
-    struct start start = {tool, NULL, NULL, 0};
+    struct start start = {tool, NULL, NULL, 0, NULL};
     run(name, start, text, written, "");
 }
 
 static void refuses_stream(const char *name, const struct stream *text, const char *complaint)
 {
-    struct start start = {tool, NULL, NULL, 0};
+    struct start start = {tool, NULL, NULL, 0, NULL};
     run(name, start, text, &nothing, complaint);
 }
 
@@ -208,8 +208,8 @@ static void files(const char *sample)
 {
     static struct stream text, written;
     static struct bytes bytes;
-    struct start from_file = {tool, sample, NULL, 0}, from_folder = {tool, "/", NULL, 0};
-    struct start to_full = {tool, sample, "/dev/full", 0};
+    struct start from_file = {tool, sample, NULL, 0, NULL}, from_folder = {tool, "/", NULL, 0, NULL};
+    struct start to_full = {tool, sample, "/dev/full", 0, NULL};
     hex(&bytes, BOOK_A " 12 00 02 00 01 00 07 00 00 00 00 00 00 00 00 00 02 00");
     stream_add(&written, bytes.at, bytes.len);
     run("the sample", from_file, NULL, &written, "");
