@@ -1,7 +1,9 @@
-/* Records for tests: see record.h. */
+/* Records: see record.h. */
 #include "record.h"
 
 #include <stdio.h>
+
+const char signs[] = "+-0123456789ABCDEFGHIJKLMNOPQRSTUVWXYZabcdefghijklmnopqrstuvwxyz";
 
 void add(struct bytes *to, uint64_t number, int width)
 {
@@ -31,6 +33,27 @@ void mask_record(struct bytes *to, const struct block *blocks, unsigned count)
     for (unsigned i = 0; i < count; i++) {
         mask_block(to, blocks[i]);
     }
+}
+
+static uint64_t number_at(const uint8_t *at, int width)
+{
+    uint64_t number = 0;
+    for (int i = 0; i < width; i++) {
+        number |= (uint64_t)at[i] << (8 * i);
+    }
+    return number;
+}
+
+unsigned mask_blocks(const struct bytes *mask, struct block *blocks)
+{
+    unsigned count = (unsigned)number_at(mask->at + 4, 2);
+    for (unsigned i = 0; i < count; i++) {
+        const uint8_t *at = mask->at + 6 + 12 * i;
+        blocks[i].set = number_at(at, 8);
+        blocks[i].lower = (uint16_t)number_at(at + 8, 2);
+        blocks[i].upper = (uint16_t)number_at(at + 10, 2);
+    }
+    return count;
 }
 
 void mask_repeated(struct bytes *to, struct block even, struct block odd, unsigned count)

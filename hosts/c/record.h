@@ -1,5 +1,5 @@
 /*
- * Records for tests: masks built from blocks, the largest book, and any record from hex.
+ * Records for hosts and tests: masks built from blocks and taken apart, the largest book, and any record from hex.
  */
 #ifndef RECORD_H
 #define RECORD_H
@@ -10,6 +10,9 @@
 #include <stdint.h>
 
 #define LETTER(c) (UINT64_C(1) << (c))
+
+/* The signs of the 64 letters. */
+extern const char signs[];
 
 /* A block: at least lower and at most upper letters of set. */
 struct block {
@@ -28,6 +31,9 @@ void add(struct bytes *to, uint64_t number, int width);
 
 /* A mask of these blocks. */
 void mask_record(struct bytes *to, const struct block *blocks, unsigned count);
+
+/* The blocks of a mask that is not refused, so at most 1,024; gives how many there are. */
+unsigned mask_blocks(const struct bytes *mask, struct block *blocks);
 
 /* A mask of the same block, again and again, or of two by turns. */
 void mask_repeated(struct bytes *to, struct block even, struct block odd, unsigned count);

@@ -194,7 +194,6 @@ static void largest(void)
 {
     static struct stream text, written;
     static struct bytes bytes;
-    static const char signs[] = "+-0123456789ABCDEFGHIJKLMNOPQRSTUVWXYZabcdefghijklmnopqrstuvwxyz";
     stream_print(&text, "book 63 64\nstart 0\naccept 0 62\n62 z 0\n");
     for (int q = 0; q < 62; q++) {
         stream_print(&text, "%d %c %d\n", q, signs[q], q + 1);
