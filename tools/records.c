@@ -9,6 +9,7 @@
  *     start 0         # where it starts
  *     accept 1        # any number of accepting states, also none
  *     0 + 1           # a move: from state 0 by the letter + to state 1
+ *     1 {-0} 2        # the same move by each of these letters
  *     mask            # a mask; its blocks follow in their order, or none
  *     {+-0} 0-2       # a block: its letters, its least and its greatest length
  *
@@ -243,22 +244,41 @@ static void read_accept(void)
     put(7, record.accepting, 8);
 }
 
+/* The letters of a move: a sign, or a set. */
+static uint64_t move_letters(const char *word)
+{
+    if (*word == '{') {
+        return set(word);
+    }
+    if (word[1] != '\0') {
+        fail("'%s' is no sign", word);
+    }
+    return UINT64_C(1) << letter(*word);
+}
+
+static void put_move(unsigned from, unsigned by, unsigned to)
+{
+    size_t place = BOOK_HEAD + from * record.letters + by;
+    if (by >= record.letters) {
+        fail("'%c' is none of the book's %u letters", signs[by], record.letters);
+    }
+    if ((unsigned char)out.at[record.from + place] != NO_MOVE) {
+        fail("state %u has its move by '%c' already", from, signs[by]);
+    }
+    put(place, to, 1);
+}
+
 static void read_move(const char *word)
 {
     demand_kind(BOOK);
     unsigned from = state(word);
-    const char *by = need("the letter");
-    if (by[1] != '\0') {
-        fail("'%s' is no sign", by);
+    uint64_t letters = move_letters(need("the letter"));
+    unsigned to = state(need("the next state"));
+    for (unsigned by = 0; by < 64; by++) {
+        if (letters >> by & 1) {
+            put_move(from, by, to);
+        }
     }
-    if (letter(*by) >= record.letters) {
-        fail("'%s' is none of the book's %u letters", by, record.letters);
-    }
-    size_t place = BOOK_HEAD + from * record.letters + letter(*by);
-    if ((unsigned char)out.at[record.from + place] != NO_MOVE) {
-        fail("state %u has its move by '%s' already", from, by);
-    }
-    put(place, state(need("the next state")), 1);
 }
 
 static void read_block(const char *word)
