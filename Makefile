@@ -3,8 +3,9 @@ LIB = target/staticlib/libfekhvina.a
 PROGRAM = target/bin/narrow_lines
 HOSTS = target/hosts
 TOOLS = target/tools
+HEIGHTS = $(TOOLS)/heights.book $(TOOLS)/heights.mask
 
-.PHONY: run example check lib program hosts enumerate lines tools bench test
+.PHONY: run example form check lib program hosts enumerate lines tools bench test
 
 # The line program on 01's sample.
 run: program
@@ -13,6 +14,10 @@ run: program
 # The example host: a mask tidied and narrowed, a place asked for, a code tried.
 example: $(HOSTS)/example
 	@$(HOSTS)/example
+
+# The form in the terminal, on a height field.
+form: $(HOSTS)/form $(HEIGHTS)
+	@$(HOSTS)/form $(HEIGHTS)
 
 # Proves every crate that changed since it was last proved, and runs the cases.
 check:
@@ -57,6 +62,7 @@ TEST_C = $(addprefix hosts/c/, test.c test_tidy_try.c test_narrow.c faults.c rec
 LINES_C = $(addprefix hosts/c/, lines.c lines_records.c lines_streams.c lines_pipes.c faults.c record.c random.c plain.c \
     plain_line.c process.c stream.c count.c)
 TOOLS_C = $(addprefix hosts/c/, tools.c record.c process.c stream.c count.c)
+FORM_C = $(addprefix hosts/c/, form.c keys.c record.c)
 BENCH_C = $(addprefix hosts/bench/, bench.c growth.c narrows.c streams.c timing.c workloads.c) \
     $(addprefix hosts/c/, plain.c plain_line.c process.c random.c record.c stream.c)
 PLAIN_LINES_C = hosts/bench/plain_lines.c $(addprefix hosts/c/, plain.c plain_line.c stream.c)
@@ -84,6 +90,11 @@ $(HOSTS)/tools: $(TOOLS_C) $(HEADERS)
 	@mkdir -p $(HOSTS)
 	@$(CC) $(CFLAGS) -o $@ $(TOOLS_C)
 
+$(HOSTS)/form: lib $(FORM_C) $(HEADERS)
+	@$(CC) $(CFLAGS) -o $@ $(FORM_C) $(LIB)
+
+$(TOOLS)/heights.%: tools/heights.%.txt $(TOOLS)/records
+	@$(TOOLS)/records < $< > $@ || { rm -f $@; exit 1; }
 $(HOSTS)/bench: lib $(BENCH_C) $(GECODE) $(HEADERS)
 	@$(CC) $(CFLAGS) -Ihosts/c -o $@ $(BENCH_C) $(GECODE) $(LIB) $(GECODE_LIBS)
 
