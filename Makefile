@@ -5,7 +5,7 @@ HOSTS = target/hosts
 TOOLS = target/tools
 HEIGHTS = $(TOOLS)/heights.book $(TOOLS)/heights.mask
 
-.PHONY: run example form check lib program hosts enumerate lines tools bench test
+.PHONY: run example form check lib program hosts enumerate lines forms tools bench test
 
 # The line program on 01's sample.
 run: program
@@ -33,7 +33,7 @@ program:
 	@mkdir -p $(HOSTS)
 	@rt check narrow_lines > $(HOSTS)/program.log 2>&1 || { cat $(HOSTS)/program.log; exit 1; }
 
-# The last line of each of the next four is 'N passed, 0 failed'.
+# The last line of each of the next five is 'N passed, 0 failed'.
 
 # Tries the archive from C.
 hosts: $(HOSTS)/test $(HOSTS)/example
@@ -53,6 +53,10 @@ lines: program $(HOSTS)/lines
 tools: $(TOOLS)/records $(HOSTS)/tools
 	@$(HOSTS)/tools $(TOOLS)/records tools/sample.txt
 
+# Tries the form.
+forms: $(HOSTS)/form $(HOSTS)/forms $(HEIGHTS)
+	@$(HOSTS)/forms $(HOSTS)/form $(HEIGHTS)
+
 # Times the product beside the plain narrow and, where they are installed, Gecode; compares their answers first. It takes
 # minutes, and is no part of the gate.
 bench: program $(HOSTS)/bench $(HOSTS)/plain_lines
@@ -63,6 +67,8 @@ LINES_C = $(addprefix hosts/c/, lines.c lines_records.c lines_streams.c lines_pi
     plain_line.c process.c stream.c count.c)
 TOOLS_C = $(addprefix hosts/c/, tools.c record.c process.c stream.c count.c)
 FORM_C = $(addprefix hosts/c/, form.c keys.c record.c)
+FORMS_C = $(addprefix hosts/c/, forms.c forms_keys.c forms_terminal.c keys.c faults.c record.c random.c process.c stream.c \
+    count.c)
 BENCH_C = $(addprefix hosts/bench/, bench.c growth.c narrows.c streams.c timing.c workloads.c) \
     $(addprefix hosts/c/, plain.c plain_line.c process.c random.c record.c stream.c)
 PLAIN_LINES_C = hosts/bench/plain_lines.c $(addprefix hosts/c/, plain.c plain_line.c stream.c)
@@ -93,8 +99,12 @@ $(HOSTS)/tools: $(TOOLS_C) $(HEADERS)
 $(HOSTS)/form: lib $(FORM_C) $(HEADERS)
 	@$(CC) $(CFLAGS) -o $@ $(FORM_C) $(LIB)
 
+$(HOSTS)/forms: lib $(FORMS_C) $(HEADERS)
+	@$(CC) $(CFLAGS) -o $@ $(FORMS_C) $(LIB)
+
 $(TOOLS)/heights.%: tools/heights.%.txt $(TOOLS)/records
 	@$(TOOLS)/records < $< > $@ || { rm -f $@; exit 1; }
+
 $(HOSTS)/bench: lib $(BENCH_C) $(GECODE) $(HEADERS)
 	@$(CC) $(CFLAGS) -Ihosts/c -o $@ $(BENCH_C) $(GECODE) $(LIB) $(GECODE_LIBS)
 

@@ -66,7 +66,7 @@ static void feed_forms(const struct workload *utility)
 /* Runs a program on the file; what it prints is collected, or not. */
 static double run_on_file(const char *path, const char *out, struct stream *printed)
 {
-    struct start start = {path, file, out, 0};
+    struct start start = {path, file, out, 0, NULL};
     struct process process;
     double begun = now();
     process_start(&process, &start);
