@@ -1,5 +1,7 @@
-/* A plain narrow and place: see plain.h. Names and numbers of steps are those of document 01. */
+/* The operations in plain C: see plain.h. Names and numbers of steps are those of document 01. */
 #include "plain.h"
+
+#include <string.h>
 
 enum { MOST = 1024, NO_MOVE = 255, DEAD = 63, STATES = 64, FAR = 65535 };
 
@@ -380,6 +382,79 @@ struct plain_place plain_place(const uint8_t *book, size_t book_len, const uint8
         answer.set = work.list[at].set;
         answer.lower = work.list[at].lower;
         answer.upper = work.list[at].upper;
+    }
+    return answer;
+}
+
+/* Without a book no letter is foreign: check 9 finds nothing with 64 letters. */
+struct plain_answer plain_tidy(const uint8_t *mask, size_t mask_len, uint8_t *out, size_t room)
+{
+    struct plain_answer answer = {0, 0, 0};
+    work.book.letters = 64;
+    answer.refusal = read_mask(mask, mask_len);
+    if (answer.refusal != 0) {
+        return answer;
+    }
+    work.entries = work.count;
+    memcpy(work.list, work.blocks, work.count * sizeof work.blocks[0]);
+    unsigned count = normal_form();
+    if (room < 6 + 12 * count) {
+        answer.refusal = 10;
+    } else {
+        answer.bytes = write_mask(out, work.list, count);
+    }
+    return answer;
+}
+
+/* ---- try */
+
+/* Whether the blocks that were read spell the code; ends[i] says of the blocks so far whether they spell its first i letters. */
+static unsigned spells(const uint8_t *code, size_t len)
+{
+    static uint8_t begins[MOST + 1], ends[MOST + 1];
+    memset(ends, 0, sizeof ends);
+    ends[0] = 1;
+    for (const struct block *block = work.blocks; block < work.blocks + work.count; block++) {
+        memcpy(begins, ends, sizeof ends);
+        memset(ends, 0, sizeof ends);
+        for (size_t begin = 0; begin <= len; begin++) {
+            for (size_t end = begin; begins[begin] && end - begin <= block->upper; end++) {
+                if (end - begin >= block->lower) {
+                    ends[end] = 1;
+                }
+                if (end == len || (block->set >> code[end] & 1) == 0) {
+                    break;
+                }
+            }
+        }
+    }
+    return ends[len];
+}
+
+/* Whether the book that was read accepts the code. */
+static unsigned accepts(const uint8_t *code, size_t len)
+{
+    unsigned state = work.book.start;
+    for (size_t i = 0; i < len && state != DEAD; i++) {
+        state = move(state, code[i]);
+    }
+    return work.book.accepting >> state & 1;
+}
+
+struct plain_try plain_try(const uint8_t *book, size_t book_len, const uint8_t *mask, size_t mask_len, const uint8_t *code,
+                           size_t code_len)
+{
+    struct plain_try answer = {0, 0, 0};
+    answer.refusal = read_both(book, book_len, mask, mask_len);
+    if (answer.refusal == 0 && code_len > MOST) {
+        answer.refusal = 12;
+    }
+    for (size_t i = 0; i < code_len && answer.refusal == 0; i++) {
+        answer.refusal = code[i] >= work.book.letters ? 13 : 0;
+    }
+    if (answer.refusal == 0) {
+        answer.spells = spells(code, code_len);
+        answer.accepts = accepts(code, code_len);
     }
     return answer;
 }
