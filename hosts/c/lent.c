@@ -8,57 +8,97 @@
 #include <sys/mman.h>
 #include <unistd.h>
 
-/* How many bytes in front of a buffer are looked at. */
-enum { FRONT = 64 };
+/* How many bytes beside a buffer are looked at. */
+enum { BESIDE = 64 };
 
-/* Where each place's memory ends, and its page that can't be touched begins. */
-static uint8_t *ends[PLACES];
+/* Each place's memory lies between two pages that can't be touched. */
+static uint8_t *starts[PLACES], *ends[PLACES];
 
-/* The byte of the pattern at a distance from the end: no two neighbours are equal, and none is 0. */
-static uint8_t pattern(size_t from_end)
+static uint8_t *allocated[PLACES], *out;
+
+static enum way way = BEFORE_PAGE;
+
+/* No two neighbours are equal, and none is 0. */
+static uint8_t pattern[LONGEST + BESIDE];
+
+static void stop(const char *where)
 {
-    return (uint8_t)(from_end * 37 % 251 + 1);
+    perror(where);
+    exit(2);
 }
 
 void lent_open(void)
 {
     size_t page = (size_t)sysconf(_SC_PAGESIZE);
-    size_t size = ((LONGEST + FRONT + page - 1) / page) * page;
+    size_t size = ((LONGEST + BESIDE + page - 1) / page) * page;
     for (int i = 0; i < PLACES; i++) {
-        uint8_t *start = mmap(NULL, size + page, PROT_READ | PROT_WRITE, MAP_PRIVATE | MAP_ANONYMOUS, -1, 0);
-        if (start == MAP_FAILED || mprotect(start + size, page, PROT_NONE) != 0) {
-            perror("lent_open");
-            exit(2);
+        uint8_t *start = mmap(NULL, page + size + page, PROT_NONE, MAP_PRIVATE | MAP_ANONYMOUS, -1, 0);
+        if (start == MAP_FAILED || mprotect(start + page, size, PROT_READ | PROT_WRITE) != 0) {
+            stop("lent_open");
         }
-        ends[i] = start + size;
+        starts[i] = start + page;
+        ends[i] = start + page + size;
     }
+    for (size_t i = 0; i < sizeof pattern; i++) {
+        pattern[i] = (uint8_t)(i * 37 % 251 + 1);
+    }
+}
+
+void lent_by(enum way chosen)
+{
+    way = chosen;
+}
+
+static uint8_t *slice(enum place place, size_t len)
+{
+    if (way != ALLOCATED) {
+        return way == BEFORE_PAGE ? ends[place] - len : starts[place];
+    }
+    free(allocated[place]);
+    allocated[place] = malloc(len);
+    if (allocated[place] == NULL && len > 0) {
+        stop("lent");
+    }
+    return allocated[place];
 }
 
 const uint8_t *lent_copy(enum place place, const uint8_t *bytes, size_t len)
 {
-    uint8_t *slice = ends[place] - len;
+    uint8_t *copy = slice(place, len);
     if (len > 0) {
-        memcpy(slice, bytes, len);
+        memcpy(copy, bytes, len);
     }
-    return slice;
+    return copy;
+}
+
+/* How much pattern lies in front of a buffer, and how much behind it. */
+static size_t front(void)
+{
+    return way == BEFORE_PAGE ? BESIDE : 0;
+}
+
+static size_t behind(void)
+{
+    return way == BEHIND_PAGE ? BESIDE : 0;
 }
 
 uint8_t *lent_out(size_t len)
 {
-    for (size_t i = 1; i <= len + FRONT; i++) {
-        *(ends[OUT] - i) = pattern(i);
+    out = slice(OUT, len);
+    if (front() + len + behind() > 0) {
+        memcpy(out - front(), pattern, front() + len + behind());
     }
-    return ends[OUT] - len;
+    return out;
+}
+
+/* Whether these bytes are equal; where there are none, they may be null pointers. */
+static int equal(const uint8_t *these, const uint8_t *those, size_t len)
+{
+    return len == 0 || memcmp(these, those, len) == 0;
 }
 
 int lent_out_is(size_t len, const uint8_t *written, size_t written_len)
 {
-    for (size_t i = 1; i <= len + FRONT; i++) {
-        size_t at = len - i; /* wraps in front of the buffer */
-        uint8_t expected = i <= len && at < written_len ? written[at] : pattern(i);
-        if (*(ends[OUT] - i) != expected) {
-            return 0;
-        }
-    }
-    return 1;
+    return written_len <= len && equal(out - front(), pattern, front()) && equal(out, written, written_len)
+        && equal(out + written_len, pattern + front() + written_len, len - written_len + behind());
 }

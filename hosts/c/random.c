@@ -26,7 +26,7 @@ unsigned random_below(unsigned n)
     return (unsigned)((random_number() >> 32) % n);
 }
 
-static int one_in(unsigned n)
+int one_in(unsigned n)
 {
     return random_below(n) == 0;
 }

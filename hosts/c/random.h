@@ -15,6 +15,9 @@ uint64_t random_number(void);
 /* A number from 0 to n - 1; n is not 0. */
 unsigned random_below(unsigned n);
 
+/* Whether it is the one time in n. */
+int one_in(unsigned n);
+
 /* A good book of this size, of whose moves so many in so many are missing. */
 void random_book_of(struct bytes *to, unsigned states, unsigned letters, unsigned gaps, unsigned in);
 

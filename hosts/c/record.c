@@ -2,6 +2,7 @@
 #include "record.h"
 
 #include <stdio.h>
+#include <string.h>
 
 const char signs[] = "+-0123456789ABCDEFGHIJKLMNOPQRSTUVWXYZabcdefghijklmnopqrstuvwxyz";
 
@@ -62,6 +63,11 @@ void mask_repeated(struct bytes *to, struct block even, struct block odd, unsign
     for (unsigned i = 0; i < count; i++) {
         mask_block(to, i % 2 == 0 ? even : odd);
     }
+}
+
+int unchanged(const uint8_t *slice, const struct bytes *bytes)
+{
+    return bytes->len == 0 || memcmp(slice, bytes->at, bytes->len) == 0;
 }
 
 void hex(struct bytes *to, const char *text)

@@ -41,6 +41,9 @@ void mask_repeated(struct bytes *to, struct block even, struct block odd, unsign
 /* The largest book: q by letter q to q + 1, but 62 by letter 63 to 0; start 0 and state 62 accept. */
 void largest_book(struct bytes *to);
 
+/* Whether a slice still has these bytes. */
+int unchanged(const uint8_t *slice, const struct bytes *bytes);
+
 /* The bytes of a text in hex: two digits each, single blanks between them. */
 void hex(struct bytes *to, const char *text);
 
