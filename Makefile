@@ -4,8 +4,10 @@ PROGRAM = target/bin/narrow_lines
 HOSTS = target/hosts
 TOOLS = target/tools
 HEIGHTS = $(TOOLS)/heights.book $(TOOLS)/heights.mask
+FUZZ_SEED = 1
+FUZZ_SECONDS = 180
 
-.PHONY: run example form check lib program hosts enumerate lines forms tools bench test
+.PHONY: run example form check lib program hosts enumerate lines forms tools fuzz bench test
 
 # The line program on 01's sample.
 run: program
@@ -57,6 +59,11 @@ tools: $(TOOLS)/records $(HOSTS)/tools
 forms: $(HOSTS)/form $(HOSTS)/forms $(HEIGHTS)
 	@$(HOSTS)/forms $(HOSTS)/form $(HEIGHTS)
 
+# Compares the C entries with a plain version on damaged and random records, FUZZ_SECONDS long. The same FUZZ_SEED gives the same
+# runs; FUZZ_RUN repeats one of them alone. The last line is 'N runs, 0 differences'.
+fuzz: $(HOSTS)/fuzz
+	@ASAN_OPTIONS=abort_on_error=1 $(HOSTS)/fuzz $(FUZZ_SEED) $(FUZZ_SECONDS) $(FUZZ_RUN)
+
 # Times the product beside the plain narrow and, where they are installed, Gecode; compares their answers first. It takes
 # minutes, and is no part of the gate.
 bench: program $(HOSTS)/bench $(HOSTS)/plain_lines
@@ -65,6 +72,7 @@ bench: program $(HOSTS)/bench $(HOSTS)/plain_lines
 TEST_C = $(addprefix hosts/c/, test.c test_tidy_try.c test_narrow.c faults.c record.c lent.c stack.c count.c)
 LINES_C = $(addprefix hosts/c/, lines.c lines_records.c lines_streams.c lines_pipes.c faults.c record.c random.c plain.c \
     plain_line.c process.c stream.c count.c)
+FUZZ_C = $(addprefix hosts/c/, fuzz.c fuzz_inputs.c fuzz_compare.c record.c random.c plain.c lent.c)
 TOOLS_C = $(addprefix hosts/c/, tools.c record.c process.c stream.c count.c)
 FORM_C = $(addprefix hosts/c/, form.c keys.c record.c)
 FORMS_C = $(addprefix hosts/c/, forms.c forms_keys.c forms_terminal.c keys.c faults.c record.c random.c process.c stream.c \
@@ -84,6 +92,10 @@ endif
 
 $(HOSTS)/test: lib $(TEST_C) $(HEADERS)
 	@$(CC) $(CFLAGS) -o $@ $(TEST_C) $(LIB)
+
+# What the sanitizers see is the host's side: the archive is not built with them.
+$(HOSTS)/fuzz: lib $(FUZZ_C) $(HEADERS)
+	@$(CC) $(CFLAGS) -g -fsanitize=address,undefined -fno-sanitize-recover=all -o $@ $(FUZZ_C) $(LIB)
 
 $(HOSTS)/example: lib hosts/c/example.c include/fekhvina.h
 	@$(CC) $(CFLAGS) -o $@ hosts/c/example.c $(LIB)
