@@ -25,6 +25,10 @@
 /* The codes of zeros, and those with a 1 behind them: 0 by 0 to 0 and by 1 to 1; both accept. */
 #define GAP "13 00 01 00 02 02 00 03 00 00 00 00 00 00 00 00 01 FF FF"
 
+/* The codes of 1, 3, 5, .. zeros: 0 by 0 to 18, 18 by 0 to 0; 18 accepts. From byte 15 on, its moves are the mask {0} 0-2. */
+#define OVERLAP "22 00 01 00 13 01 00 00 00 04 00 00 00 00 00 12 00 02 00 01 00 01 00 00 00 00 00 00 00 00 00 02 00 00"
+#define OVERLAP_MASK 15
+
 /* Heights, a sign and four digits, from -0250 to +1200; there is no -0000. Letters 0 to 11 are + - 0 1 .. 9. */
 #define HEIGHTS "B7 00 01 00 0E 0C 00 00 01 00 00 00 00 00 00 "       \
     "01 09 FF FF FF FF FF FF FF FF FF FF " /*  0: the start */            \

@@ -6,7 +6,12 @@
 int main(void)
 {
     lent_open();
-    test_tidy_try();
-    test_narrow_place();
+    for (enum way way = BEFORE_PAGE; way <= BEHIND_PAGE; way++) {
+        lent_by(way);
+        test_tidy_try();
+        test_narrow_place();
+    }
+    test_tidy_try_once();
+    test_narrow_place_once();
     return count_end();
 }

@@ -33,7 +33,7 @@ static int entry_is(narrow_entry *entry, uint32_t expected, size_t out_len, size
 {
     const uint8_t *b = lent_copy(BOOK, book.at, book.len), *m = lent_copy(MASK, in.at, in.len);
     uint32_t got = entry(b, book.len, m, in.len, lent_out(out_len), out_len);
-    return got == expected && lent_out_is(out_len, answer.at, written);
+    return got == expected && lent_out_is(out_len, answer.at, written) && unchanged(b, &book) && unchanged(m, &in);
 }
 
 /* Whether the three entries do, with an answer buffer of this length. */
@@ -230,7 +230,8 @@ static int place_is(uint32_t block, uint32_t place, uint32_t refusal, struct blo
     return fekhvina_place_refusal(b, book.len, m, in.len, block, place) == refusal
         && fekhvina_place_set(b, book.len, m, in.len, block, place) == entry.set
         && fekhvina_place_lower(b, book.len, m, in.len, block, place) == entry.lower
-        && fekhvina_place_upper(b, book.len, m, in.len, block, place) == entry.upper;
+        && fekhvina_place_upper(b, book.len, m, in.len, block, place) == entry.upper
+        && unchanged(b, &book) && unchanged(m, &in);
 }
 
 static const struct block nothing = {0, 0, 0};
@@ -303,7 +304,7 @@ static void place_tables(void)
 static void place_largest(void)
 {
     struct block both = {3, 1, 1}, exact = {3, 1024, 1024}, most = {3, 0, 1024}, none = {1, 0, 0};
-    struct block zero = {1, 1, 1}, one = {2, 1, 1};
+    struct block zero = {1, 1, 1}, one = {2, 1, 1}, all = {UINT64_MAX, 63, 1024}, last = {LETTER(63), 1, 1}, used = {~LETTER(62), 0, 961};
     int holds = 1;
     hex(&book, TURNS);
     mask_repeated(&in, both, both, 1024);
@@ -321,6 +322,9 @@ static void place_largest(void)
     count("place", "one block 0-1024", place_is(1, 0, 0, most) && lacks(1, 1) && lacks(1, 1024));
     mask_repeated(&in, none, none, 1024);
     count("place", "1,024 blocks with u = 0", place_is(1, 0, 0, nothing) && place_is(1024, 0, 0, nothing) && lacks(1025, 0));
+    largest_book(&book);
+    mask_record(&in, &all, 1);
+    count("place", "63 states and 64 letters", place_is(1, 63, 0, last) && place_is(1, 0, 0, used) && lacks(1, 64));
 }
 
 /* Masks of every size. Book FORK has one code of each length: the last letter is 1, back from it 0 and 1 take turns to the
@@ -453,6 +457,20 @@ static void null_slices(void)
         && fekhvina_narrow_verdict(b, book.len, m, in.len, NULL, 0) == NONE && fekhvina_narrow_bytes(b, book.len, m, in.len, NULL, 0) == 0);
 }
 
+/* What is only read may overlap: the mask is the book, and then it lies in the moves of OVERLAP, whose codes are 0, 0 0 0, .. */
+static void overlaps(void)
+{
+    hex(&book, OVERLAP);
+    const uint8_t *b = lent_copy(BOOK, book.at, book.len), *m = b + OVERLAP_MASK;
+    struct block entry = {1, 1, 2};
+    mask_record(&answer, &entry, 1);
+    count("narrow", "the mask is the book", fekhvina_narrow_refusal(b, book.len, b, book.len, NULL, 0) == 2);
+    count("narrow", "the mask in the book", fekhvina_narrow_verdict(b, book.len, m, 18, lent_out(18), 18) == SOME
+        && lent_out_is(18, answer.at, 18) && unchanged(b, &book));
+    count("place", "the mask in the book", fekhvina_place_refusal(b, book.len, m, 18, 1, 0) == 0
+        && fekhvina_place_set(b, book.len, m, 18, 1, 0) == 1 && fekhvina_place_lower(b, book.len, m, 18, 1, 0) == 1);
+}
+
 /* ---- stack */
 
 static void one_narrow(void)
@@ -496,6 +514,11 @@ void test_narrow_place(void)
     every_size();
     bad_records();
     order();
+    overlaps();
+}
+
+void test_narrow_place_once(void)
+{
     null_slices();
     stacks();
 }

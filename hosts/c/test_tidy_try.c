@@ -33,6 +33,7 @@ static void tidies(const char *name)
     int holds = tidy_is(mask, in.len, need, 0, &answer) && tidy_is(mask, in.len, need + 1, 0, &answer)
         && tidy_is(mask, in.len, need + 1000, 0, &answer) && tidy_is(mask, in.len, need - 1, 10, &answer)
         && tidy_is(mask, in.len, 0, 10, &answer);
+    holds = holds && unchanged(mask, &in);
     mask = lent_copy(MASK, answer.at, answer.len);
     count("tidy", name, holds && tidy_is(mask, need, need, 0, &answer));
 }
@@ -91,7 +92,8 @@ static void tidy_tables(void)
 static void tidy_refuses(const char *name, uint32_t refusal)
 {
     const uint8_t *mask = lent_copy(MASK, in.at, in.len);
-    count("tidy", name, tidy_is(mask, in.len, 0, refusal, &answer) && tidy_is(mask, in.len, 20000, refusal, &answer));
+    count("tidy", name, tidy_is(mask, in.len, 0, refusal, &answer) && tidy_is(mask, in.len, 20000, refusal, &answer)
+        && unchanged(mask, &in));
 }
 
 /* ---- try */
@@ -105,7 +107,8 @@ static int try_is(uint32_t refusal, uint32_t spells, uint32_t accepts)
     const uint8_t *c = lent_copy(CODE, code.at, code.len);
     return fekhvina_try_refusal(b, book.len, m, in.len, c, code.len) == refusal
         && fekhvina_try_mask(b, book.len, m, in.len, c, code.len) == spells
-        && fekhvina_try_book(b, book.len, m, in.len, c, code.len) == accepts;
+        && fekhvina_try_book(b, book.len, m, in.len, c, code.len) == accepts
+        && unchanged(b, &book) && unchanged(m, &in) && unchanged(c, &code);
 }
 
 struct try_case {
@@ -266,6 +269,17 @@ static void null_slices(void)
         && fekhvina_try_mask(b, book.len, m, in.len, NULL, 0) == 1 && fekhvina_try_book(b, book.len, m, in.len, NULL, 0) == 1);
 }
 
+/* What is only read may overlap: the mask lies in the book's moves, and the code in the mask. */
+static void overlaps(void)
+{
+    hex(&book, OVERLAP);
+    const uint8_t *b = lent_copy(BOOK, book.at, book.len), *m = b + OVERLAP_MASK, *c = m + 1;
+    count("try", "the mask in the book, the code in the mask", fekhvina_try_refusal(b, book.len, m, 18, c, 1) == 0
+        && fekhvina_try_mask(b, book.len, m, 18, c, 1) == 1 && fekhvina_try_book(b, book.len, m, 18, c, 1) == 1
+        && unchanged(b, &book));
+    count("try", "the code is the mask", fekhvina_try_refusal(b, book.len, m, 18, m, 18) == 13);
+}
+
 /* The largest mask and code, with what the header says of the stack. */
 static void largest_tidy(void)
 {
@@ -298,6 +312,11 @@ void test_tidy_try(void)
     refusals();
     too_long();
     try_refusals();
+    overlaps();
+}
+
+void test_tidy_try_once(void)
+{
     null_slices();
     stacks();
 }
