@@ -36,7 +36,8 @@ static void show_bytes(const char *name, const struct bytes *bytes)
 static void show_input(void)
 {
     static const char *const ways[] = {"in front of a page", "behind a page", "allocated"};
-    printf("  seed %" PRIu64 ", run %" PRIu64 ", slices %s%s\n", seed, run, ways[input.way], input.null ? ", null where empty" : "");
+    printf("  seed %" PRIu64 ", run %" PRIu64 ", slices %s%s\n", seed, run, ways[input.way],
+           input.null ? ", null where empty" : "");
     show_bytes("book", &input.book);
     show_bytes("mask", &input.mask);
     show_bytes("code", &input.code);

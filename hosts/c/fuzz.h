@@ -1,8 +1,8 @@
 /*
  * Compares the twelve C entries with the operations of plain.h, on good, damaged and random records. A run is one input, given
  * to every entry: its numbers, every byte of the answer buffer and of what was lent to be read are compared; at times it is
- * given again with a field changed, so that nothing kept between calls goes unnoticed. What a run does depends on the seed and its
- * number alone: it can be repeated by itself.
+ * given again with a field changed, so that nothing kept between calls goes unnoticed. What a run does depends on the seed and
+ * its number alone: it can be repeated by itself.
  */
 #ifndef FUZZ_H
 #define FUZZ_H
@@ -32,6 +32,18 @@ void change_input(struct input *in);
 
 /* The length of an answer buffer, where the answer has this many bytes. */
 size_t random_room(size_t needed);
+
+/* Changes one field, or one bit; the length stays. Here and below, what is left may still be good. */
+void change_book(struct bytes *book);
+void change_block(struct bytes *mask, unsigned letters);
+void flip_bit(struct bytes *record);
+
+/* Changes a book, or a mask for a book with so many letters, in one way of many. */
+void damage_book(struct bytes *book);
+void damage_mask(struct bytes *mask, unsigned letters);
+
+/* Any bytes, at times with a right length and kind. */
+void random_bytes(struct bytes *record, unsigned kind);
 
 enum operation { NARROW, TIDY, PLACE, TRY, OPERATIONS };
 

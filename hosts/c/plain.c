@@ -408,7 +408,7 @@ struct plain_answer plain_tidy(const uint8_t *mask, size_t mask_len, uint8_t *ou
 
 /* ---- try */
 
-/* Whether the blocks that were read spell the code; ends[i] says of the blocks so far whether they spell its first i letters. */
+/* Whether the blocks that were read spell the code; ends[i] says whether those so far spell its first i letters. */
 static unsigned spells(const uint8_t *code, size_t len)
 {
     static uint8_t begins[MOST + 1], ends[MOST + 1];

@@ -3,8 +3,8 @@
 
 #include <string.h>
 
-/* Where things stand in a record. */
-enum { KIND = 2, HEAD = 4, BOOK_LETTERS = 5, MASK_COUNT = 4, LONGEST_RECORD = 65535 };
+/* The bytes of the length and the kind. */
+enum { HEAD = 4 };
 
 static uint64_t state = 1;
 
@@ -29,6 +29,11 @@ unsigned random_below(unsigned n)
 int one_in(unsigned n)
 {
     return random_below(n) == 0;
+}
+
+unsigned one_of(const unsigned *numbers, size_t count)
+{
+    return numbers[random_below((unsigned)count)];
 }
 
 void random_book_of(struct bytes *to, unsigned states, unsigned letters, unsigned gaps, unsigned in)
@@ -68,7 +73,7 @@ void random_mask(struct bytes *to, const struct bytes *book)
         unsigned upper = random_below(longest);
         upper = upper < left ? upper : left;
         left -= upper;
-        blocks[i].set = random_set(book->at[BOOK_LETTERS]);
+        blocks[i].set = random_set(book->at[AT_LETTERS]);
         blocks[i].upper = (uint16_t)upper;
         blocks[i].lower = (uint16_t)(one_in(2) ? upper : random_below(upper + 1));
     }
@@ -80,10 +85,10 @@ void random_damage(struct bytes *record)
     size_t len = record->len;
     switch (random_below(5)) {
     case 0:
-        record->at[KIND + random_below(2)] ^= (uint8_t)(1 + random_below(255));
+        record->at[AT_KIND + random_below(2)] ^= (uint8_t)(1 + random_below(255));
         break;
     case 1:
-        record->at[MASK_COUNT + random_below(2)] ^= (uint8_t)(1 + random_below(255));
+        record->at[AT_COUNT + random_below(2)] ^= (uint8_t)(1 + random_below(255));
         break;
     case 2:
         record->at[HEAD + random_below((unsigned)len - HEAD)] = (uint8_t)random_below(256);
@@ -96,6 +101,5 @@ void random_damage(struct bytes *record)
         memset(record->at + record->len, (int)random_below(256), len - record->len);
     }
     record->len = len;
-    record->at[0] = (uint8_t)len;
-    record->at[1] = (uint8_t)(len >> 8);
+    put(record, 0, len, 2);
 }

@@ -18,6 +18,10 @@ unsigned random_below(unsigned n);
 /* Whether it is the one time in n. */
 int one_in(unsigned n);
 
+/* One of these numbers. */
+unsigned one_of(const unsigned *numbers, size_t count);
+#define ONE_OF(...) one_of((const unsigned[]){__VA_ARGS__}, sizeof((const unsigned[]){__VA_ARGS__}) / sizeof(unsigned))
+
 /* A good book of this size, of whose moves so many in so many are missing. */
 void random_book_of(struct bytes *to, unsigned states, unsigned letters, unsigned gaps, unsigned in);
 

@@ -13,6 +13,22 @@ void add(struct bytes *to, uint64_t number, int width)
     }
 }
 
+uint64_t get(const struct bytes *from, size_t at, size_t width)
+{
+    uint64_t number = 0;
+    for (size_t i = 0; i < width && at + i < from->len; i++) {
+        number |= (uint64_t)from->at[at + i] << (8 * i);
+    }
+    return number;
+}
+
+void put(struct bytes *to, size_t at, uint64_t number, size_t width)
+{
+    for (size_t i = 0; i < width && at + i < to->len; i++) {
+        to->at[at + i] = (uint8_t)(number >> (8 * i));
+    }
+}
+
 static void mask_head(struct bytes *to, unsigned blocks)
 {
     to->len = 0;

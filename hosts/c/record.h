@@ -11,6 +11,13 @@
 
 #define LETTER(c) (UINT64_C(1) << (c))
 
+/* Where things stand in a book, in a mask, and in a block of it; the length and the kind stand first in both. */
+enum { AT_KIND = 2, AT_STATES = 4, AT_LETTERS, AT_START, AT_ACCEPTING, AT_MOVES = 15 };
+enum { AT_COUNT = 4, AT_BLOCKS = 6, AT_LOWER = 8, AT_UPPER = 10, BLOCK_SIZE = 12 };
+
+/* The most blocks, uppers and letters of a code, and the most bytes that a length field can say. */
+enum { MOST = 1024, LONGEST_RECORD = 65535 };
+
 /* The signs of the 64 letters. */
 extern const char signs[];
 
@@ -28,6 +35,10 @@ struct bytes {
 
 /* Adds a number, little-endian. */
 void add(struct bytes *to, uint64_t number, int width);
+
+/* A number, and a number put, where the record is long enough: what lies behind its end is 0, and stays. */
+uint64_t get(const struct bytes *from, size_t at, size_t width);
+void put(struct bytes *to, size_t at, uint64_t number, size_t width);
 
 /* A mask of these blocks. */
 void mask_record(struct bytes *to, const struct block *blocks, unsigned count);

@@ -304,7 +304,8 @@ static void place_tables(void)
 static void place_largest(void)
 {
     struct block both = {3, 1, 1}, exact = {3, 1024, 1024}, most = {3, 0, 1024}, none = {1, 0, 0};
-    struct block zero = {1, 1, 1}, one = {2, 1, 1}, all = {UINT64_MAX, 63, 1024}, last = {LETTER(63), 1, 1}, used = {~LETTER(62), 0, 961};
+    struct block zero = {1, 1, 1}, one = {2, 1, 1};
+    struct block all = {UINT64_MAX, 63, 1024}, last = {LETTER(63), 1, 1}, used = {~LETTER(62), 0, 961};
     int holds = 1;
     hex(&book, TURNS);
     mask_repeated(&in, both, both, 1024);
@@ -457,7 +458,7 @@ static void null_slices(void)
         && fekhvina_narrow_verdict(b, book.len, m, in.len, NULL, 0) == NONE && fekhvina_narrow_bytes(b, book.len, m, in.len, NULL, 0) == 0);
 }
 
-/* What is only read may overlap: the mask is the book, and then it lies in the moves of OVERLAP, whose codes are 0, 0 0 0, .. */
+/* What is only read may overlap: the mask is the book, or lies in the book's moves. */
 static void overlaps(void)
 {
     hex(&book, OVERLAP);
