@@ -61,6 +61,7 @@ void differs(const char *text, ...)
         printf("\n");
         va_end(values);
         show_input();
+        fflush(stdout);
     }
 }
 

@@ -29,6 +29,7 @@ static void add_random(struct bytes *record, size_t count)
 static void damage_frame(struct bytes *record)
 {
     unsigned len = (unsigned)record->len, at = random_below(len + 1);
+    unsigned cut = one_in(2) ? at : ONE_OF(0, 3, 4, 5, 6, 14, 15, len - 1);
     switch (random_below(5)) {
     case 0:
         put(record, 0, ONE_OF(0, 1, 3, 4, len - 1, len + 1, len ^ 256, len << 8, LONGEST_RECORD), 2);
@@ -37,7 +38,7 @@ static void damage_frame(struct bytes *record)
         put(record, AT_KIND, ONE_OF(0, 1, 2, 3, 257, 258, 512, LONGEST_RECORD), 2);
         return;
     case 2:
-        record->len = random_below(one_in(2) ? len + 1 : len < 20 ? len + 1 : 20);
+        record->len = cut < len ? cut : len;
         break;
     case 3:
         add_random(record, 1 + random_length());

@@ -224,12 +224,13 @@ static void spoil(struct input *in)
     } else if (kind == 4) {
         code_in_book(in);
     } else if (kind <= 11) {
-        for (unsigned faults = 1 + random_below(2); faults > 0; faults--) {
-            if (one_in(2)) {
+        for (unsigned faults = 1 + random_below(3); faults > 0; faults--) {
+            if (in_book) {
                 damage_book(&in->book);
             } else {
                 damage_mask(&in->mask, letters);
             }
+            in_book ^= one_in(4);
         }
     }
 }
