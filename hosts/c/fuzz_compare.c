@@ -10,7 +10,7 @@ unsigned long tally[OUTCOMES][OPERATIONS];
 
 const char *entry = "no entry";
 
-/* The input in hand, and its slices as they are lent. */
+/* The input in hand, and its slices as they are lent, to the entries and to the plain version. */
 static const struct input *in;
 static const uint8_t *book, *mask, *code;
 
@@ -18,7 +18,6 @@ static const uint8_t *book, *mask, *code;
 static uint8_t answer[6 + 12 * 1024];
 
 #define PAIR book, in->book.len, mask, in->mask.len
-#define PLAIN_PAIR in->book.at, in->book.len, in->mask.at, in->mask.len
 
 /* ---- lending and comparing */
 
@@ -62,7 +61,7 @@ static void same_buffer(uint64_t got, uint64_t expected, size_t room, size_t wri
 static int is_of_book(void)
 {
     static const uint8_t no_blocks[] = {6, 0, 2, 0, 0, 0};
-    return plain_narrow(in->book.at, in->book.len, no_blocks, sizeof no_blocks, answer, sizeof answer).refusal != 0;
+    return plain_narrow(book, in->book.len, no_blocks, sizeof no_blocks, answer, sizeof answer).refusal != 0;
 }
 
 /* Counts a refusal, or else this outcome. */
@@ -80,9 +79,9 @@ static void ended(enum operation operation, unsigned refusal, unsigned outcome)
 /* Gives the verdict that narrow has where there is room, 0 where it is refused. */
 static unsigned compare_narrow(struct input *input)
 {
-    struct plain_answer most = plain_narrow(PLAIN_PAIR, answer, sizeof answer);
+    struct plain_answer most = plain_narrow(PAIR, answer, sizeof answer);
     size_t room = input->narrow_room = random_room(most.bytes);
-    struct plain_answer plain = plain_narrow(PLAIN_PAIR, answer, room);
+    struct plain_answer plain = plain_narrow(PAIR, answer, room);
     entry = "narrow_refusal";
     same_buffer(fekhvina_narrow_refusal(PAIR, lend_out(room), room), plain.refusal, room, plain.bytes);
     entry = "narrow_verdict";
@@ -95,8 +94,8 @@ static unsigned compare_narrow(struct input *input)
 
 static void compare_tidy(struct input *input)
 {
-    size_t room = input->tidy_room = random_room(plain_tidy(in->mask.at, in->mask.len, answer, sizeof answer).bytes);
-    struct plain_answer plain = plain_tidy(in->mask.at, in->mask.len, answer, room);
+    size_t room = input->tidy_room = random_room(plain_tidy(mask, in->mask.len, answer, sizeof answer).bytes);
+    struct plain_answer plain = plain_tidy(mask, in->mask.len, answer, room);
     entry = "tidy_refusal";
     same_buffer(fekhvina_tidy_refusal(mask, in->mask.len, lend_out(room), room), plain.refusal, room, plain.bytes);
     entry = "tidy_bytes";
@@ -106,7 +105,7 @@ static void compare_tidy(struct input *input)
 
 static void compare_place(unsigned verdict)
 {
-    struct plain_place plain = plain_place(PLAIN_PAIR, in->block, in->place);
+    struct plain_place plain = plain_place(PAIR, in->block, in->place);
     entry = "place_refusal";
     same(fekhvina_place_refusal(PAIR, in->block, in->place), plain.refusal);
     entry = "place_set";
@@ -120,7 +119,7 @@ static void compare_place(unsigned verdict)
 
 static void compare_try(void)
 {
-    struct plain_try plain = plain_try(PLAIN_PAIR, in->code.at, in->code.len);
+    struct plain_try plain = plain_try(PAIR, code, in->code.len);
     entry = "try_refusal";
     same(fekhvina_try_refusal(PAIR, code, in->code.len), plain.refusal);
     entry = "try_mask";
