@@ -6,8 +6,6 @@
 
 #include <string.h>
 
-enum { MOST = 1024 };
-
 /* Heights from -250 to +1,200: a sign, and four digits. */
 static void make_height(struct workload *height)
 {

@@ -28,7 +28,7 @@
 #include <termios.h>
 #include <unistd.h>
 
-enum { LONGEST_RECORD = 65535, END = -1, CTRL_C = 3, CTRL_D = 4, CTRL_H = 8, ESCAPE = 27, DELETE = 127 };
+enum { END = -1, CTRL_C = 3, CTRL_D = 4, CTRL_H = 8, ESCAPE = 27, DELETE = 127 };
 
 static void fail(const char *format, ...)
 {

@@ -9,9 +9,6 @@
 
 #include <stdint.h>
 
-/* The most blocks of a mask, and the most letters of a code that a mask spells. */
-enum { MOST = 1024 };
-
 enum verdict { NONE = 1, ALL, ONE, SOME };
 
 struct form {

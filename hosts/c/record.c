@@ -52,23 +52,14 @@ void mask_record(struct bytes *to, const struct block *blocks, unsigned count)
     }
 }
 
-static uint64_t number_at(const uint8_t *at, int width)
-{
-    uint64_t number = 0;
-    for (int i = 0; i < width; i++) {
-        number |= (uint64_t)at[i] << (8 * i);
-    }
-    return number;
-}
-
 unsigned mask_blocks(const struct bytes *mask, struct block *blocks)
 {
-    unsigned count = (unsigned)number_at(mask->at + 4, 2);
+    unsigned count = (unsigned)get(mask, AT_COUNT, 2);
     for (unsigned i = 0; i < count; i++) {
-        const uint8_t *at = mask->at + 6 + 12 * i;
-        blocks[i].set = number_at(at, 8);
-        blocks[i].lower = (uint16_t)number_at(at + 8, 2);
-        blocks[i].upper = (uint16_t)number_at(at + 10, 2);
+        size_t at = AT_BLOCKS + BLOCK_SIZE * (size_t)i;
+        blocks[i].set = get(mask, at, 8);
+        blocks[i].lower = (uint16_t)get(mask, at + AT_LOWER, 2);
+        blocks[i].upper = (uint16_t)get(mask, at + AT_UPPER, 2);
     }
     return count;
 }
