@@ -3,6 +3,7 @@ LIB = target/staticlib/libfekhvina.a
 PROGRAM = target/bin/narrow_lines
 HOSTS = target/hosts
 TOOLS = target/tools
+CARGO = $(or $(shell command -v cargo),$(HOME)/.cargo/bin/cargo)
 HEIGHTS = $(TOOLS)/heights.book $(TOOLS)/heights.mask
 FUZZ_SEED = 1
 FUZZ_SECONDS = 180
@@ -44,7 +45,7 @@ hosts: $(HOSTS)/test $(HOSTS)/example
 
 # Holds the archive to the meaning, from Rust: every code of small masks is spelled out.
 enumerate: lib
-	@cd hosts/rust && cargo build --release --offline --locked --quiet
+	@cd hosts/rust && $(CARGO) build --release --offline --locked --quiet
 	@target/rust/release/enumerate
 
 # Tries the line program through pipes.

@@ -1,5 +1,4 @@
 // The passes of document 01 on a book and the blocks of a mask: forward through the blocks, and back. All room is lent.
-ghost use mathlib.Core.Path.{_≡_};
 ghost use Prim.Native.Nat.{_+_, _*_, _≤_, _<_};
 ghost use lib.ListN.{length};
 ghost use Rattle.model.specs.Size.{Room};
