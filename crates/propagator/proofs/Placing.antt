@@ -1,7 +1,7 @@
 -- Step 5's loop over the places of a block, from the last to the first: the states kept, and the entries stored.
 -- Assumes nothing.
 use Prim.Native.Nat.{ℕ, zero, suc, _+_, _-_, _≤_, _<_}
-use mathlib.Core.Path.{_≡_, refl, ap, ap₂, _∙_}
+use mathlib.Core.Path.{_≡_, refl, sym, ap, ap₂, _∙_}
 use mathlib.Core.Logic.{_⊎_, ⊎-elim}
 use mathlib.Core.List.{List, _∷_}
 use native.Mathlib.Omega.{arith}
@@ -17,7 +17,7 @@ use Rattle.records.proofs.Copies.{stored-other}
 use Rattle.normal_form.proofs.Steps.{between-set}
 use Rattle.propagator.specs.declared.places.Kept.{Kept}
 use Rattle.propagator.specs.Moves.{exactly}
-use Rattle.propagator.specs.Rows.{keptTo, entriesTo, Places, setBefore, Writes}
+use Rattle.propagator.specs.Rows.{keptTo, entriesTo, Becomes, Places, setBefore, Writes}
 use Rattle.propagator.proofs.Keeping.{before-bytes}
 use Rattle.propagator.proofs.Rows.{set-before-is}
 
@@ -26,14 +26,9 @@ pub set-stored : (first : ℕ) (sets : List ℕ) (at j : ℕ) → ¬ (j ≡ 0) �
 set-stored first sets at zero n = absurd (n refl)
 set-stored first sets at (suc j) n = let same : at + suc j - 1 ≡ at + j = omega arith in rw same
 
--- what one place between two sets becomes
-pub record Remembered (t : Table) (S from to : ℕ) (kept : Kept) : Type 0 where
-  pub letter : kept .letters ≡ between t S from to
-  pub state : kept .states ≡ before t S from to
-
 -- between empty sets: nothing
-pub remembered-none : (t : Table) (S : ℕ) → t .states < 64 → Remembered t S 0 0 (record { letters = 0; states = 0 })
-remembered-none t S fits =
+pub becomes-none : (t : Table) (S : ℕ) → t .states < 64 → Becomes t S 0 0 (record { from = 0; to = 0; letters = 0; states = 0 })
+becomes-none t S fits =
     record {
       letter =
           same-members 0 (between t S 0 0) (omega arith) (between-bytes t S 0 0)
@@ -43,12 +38,18 @@ remembered-none t S fits =
           (λ q. (λ h. absurd (in-none h), λ h. let (n, c, k, e) = in-before t fits S 0 0 .0 h in absurd (in-none n)));
     }
 
+-- a place between its own sets, where these are given by equations
+pub becomes-own : (t : Table) (S Q M : ℕ) (kept : Kept) → (kept .from ≡ Q) × (kept .to ≡ M) × Becomes t S Q M kept
+    → Becomes t S (kept .from) (kept .to) kept
+becomes-own t S Q M kept (a, b, new) =
+    record { letter = new .letter ∙ sym (ap₂ (between t S) a b); state = new .state ∙ sym (ap₂ (before t S) a b) }
+
 -- a place between Q and M: looked at now, or between the same sets as the one before
-pub remembered-more : (t : Table) (S from to Q M from' to' : ℕ) (kept kept' : Kept) → Remembered t S from to kept
-    → ((from' ≡ Q) × (to' ≡ M) × Remembered t S Q M kept') ⊎ ((Q ≡ from) × (M ≡ to) × (from' ≡ from) × (to' ≡ to) × (kept' ≡ kept))
-    → Remembered t S from' to' kept' × Remembered t S Q M kept'
-remembered-more t S from to Q M from' to' kept kept' old =
-    ⊎-elim (λ (a, b, new). (rw (a, b) new, new)) (λ (q, m, a, b, e). (rw (a, b, e) old, rw (q, m, e) old))
+pub becomes-more : (t : Table) (S Q M : ℕ) (kept kept' : Kept) → Becomes t S (kept .from) (kept .to) kept
+    → ((kept' .from ≡ Q) × (kept' .to ≡ M) × Becomes t S Q M kept') ⊎ ((Q ≡ kept .from) × (M ≡ kept .to) × (kept' ≡ kept))
+    → Becomes t S (kept' .from) (kept' .to) kept' × Becomes t S Q M kept'
+becomes-more t S Q M kept kept' old =
+    ⊎-elim (λ new. (becomes-own t S Q M kept' new, new .2)) (λ (q, m, e). (rw e old, rw (q, m, e) old))
 
 -- k places
 abbrev places : ℕ → ℕ → List Segment
@@ -106,7 +107,7 @@ module _ (t : Table) (S first count end : ℕ) (a b c : List ℕ) (entry : ℕ) 
     -- one place more, whose set before it is Q
     pub placing-more : (j i Q : ℕ) (kept : Kept) (sets : List ℕ) (at : ℕ) (a'' b'' c'' : List ℕ) → j ≡ suc i
         → Placing t S first count end a b c entry a' b' c' states j
-        → Enough a b c (entry + count) → Places t S first count sets at → Q ≡ setBefore first sets at i → Remembered t S Q states kept
+        → Enough a b c (entry + count) → Places t S first count sets at → Q ≡ setBefore first sets at i → Becomes t S Q states kept
         → a'' ≡ set a' (entry + i) (kept .letters) → b'' ≡ set b' (entry + i) 1 → c'' ≡ set c' (entry + i) 1
         → Placing t S first count end a b c entry a'' b'' c'' (kept .states) i
     placing-more j i Q kept sets at a'' b'' c'' e placing enough stored q place d f g =
@@ -115,7 +116,7 @@ module _ (t : Table) (S first count end : ℕ) (a b c : List ℕ) (entry : ℕ) 
         let more : count - i ≡ suc (count - suc i) = omega (arith, old .within) in
         let next : entry + suc i ≡ suc (entry + i) = omega arith in
         let here : Q ≡ exactly t S first i = q ∙ set-before-is t S first count sets at stored i (omega (arith, old .within)) in
-        let done : Remembered t S (exactly t S first i) states kept = rw here at place in
+        let done : Becomes t S (exactly t S first i) states kept = rw here at place in
         let x = block (kept .letters) 1 1 in
         let room : Enough a' b' c' (entry + count) = (omega (arith, old .bases), omega (arith, old .lowers), omega (arith, old .uppers)) in
         record {

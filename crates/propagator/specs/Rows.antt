@@ -8,11 +8,12 @@ use Rattle.model.specs.declared.Block.{Block}
 use Rattle.model.specs.Set.{Member}
 use Rattle.model.specs.DashedString.{blockAt}
 use Rattle.model.specs.Automaton.{Table, Dfa}
-use Rattle.model.specs.Passes.{Segment, segments, forward, backward, pruned, final, finals, narrowedList}
+use Rattle.model.specs.Passes.{Segment, segments, before, between, forward, backward, pruned, final, finals, narrowedList}
 use Rattle.model.specs.Verdict.{someLegal}
 use Rattle.model.specs.Size.{lowerSum}
 use Rattle.records.specs.Written.{numbered, blocksOf, blocksBetween, Enough}
 use Rattle.propagator.specs.declared.Passed.{Passed}
+use Rattle.propagator.specs.declared.places.Kept.{Kept}
 use Rattle.propagator.specs.Moves.{exactly}
 
 -- the states kept before the row, where E are those kept behind it
@@ -28,6 +29,12 @@ entriesTo t E Q (s ∷ ss) = let P = forward t Q s in pruned t Q s (keptTo t E P
 -- Q0 of block i, from 0: the states possible before it, from states of Q on
 unfoldable pub entering : Table → ℕ → List Block → ℕ → ℕ
 entering t Q xs i = final t Q (segments (take i xs))
+
+-- step 5, of a place with letters of S that has the states Q before it and the states E kept behind it: its letters, and the states
+-- kept before it
+pub record Becomes (t : Table) (S Q E : ℕ) (kept : Kept) : Type 0 where
+  pub letter : kept .letters ≡ between t S Q E
+  pub state : kept .states ≡ before t S Q E
 
 -- each member of E is in Q
 abbrev pub Inside : ℕ → ℕ → Type 0

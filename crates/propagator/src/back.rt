@@ -60,6 +60,7 @@ fn narrow_block(
         at,
         places,
         optional.states,
+        optional.kept,
         bases,
         lowers,
         uppers,

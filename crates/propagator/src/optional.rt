@@ -6,15 +6,18 @@ ghost use Rattle.model.specs.DashedString.{block};
 ghost use Rattle.model.specs.Passes as passes;
 ghost use Rattle.model.specs.Passes.{before, toEnd, atMost, optional, pruned, backward};
 ghost use Rattle.propagator.specs.Moves.{Usable, Below, table};
+ghost use Rattle.propagator.specs.Rows.{Becomes};
 use crate::Shape;
 use crate::moving::some_letter_to;
+use crate::places::Kept;
 use crate::places::narrow_place;
 use model::Block;
 
-// What an optional part becomes, and the states kept before it.
+// What an optional part becomes, and the states kept before it; and what a place becomes that was looked at for it.
 pub(crate) struct Optional {
     pub block: Block,
     pub states: u64,
+    pub kept: Kept,
 }
 
 // The next level, where `level` is one.
@@ -92,6 +95,7 @@ pub(crate) fn narrow_optional(
     requires { ⌜ (within ≡ atMost (table shape (now moves)) base from width) × (both within end ≡ end) ⌝ }
     ensures { λ r. ⌜ r .block ≡ pruned (table shape (now (moves .entry))) from (optional base width) end ⌝ }
     ensures { λ r. ⌜ r .states ≡ backward (table shape (now (moves .entry))) from (optional base width) end ⌝ }
+    ensures { λ r. ⌜ Becomes (table shape (now (moves .entry))) base (r .kept .from) (r .kept .to) (r .kept) ⌝ }
 {
     if width == 0 {
         return Optional {
@@ -101,6 +105,12 @@ pub(crate) fn narrow_optional(
                 upper: 0,
             },
             states: bitset::intersection(from, end),
+            kept: Kept {
+                from: 0,
+                to: 0,
+                letters: 0,
+                states: 0,
+            },
         };
     }
     let level = level_of(shape, moves, base, within, end, width - 1);
@@ -113,5 +123,6 @@ pub(crate) fn narrow_optional(
             upper: width,
         },
         states: bitset::intersection(from, bitset::union(level, kept.states)),
+        kept,
     }
 }

@@ -28,7 +28,7 @@ store-requires c κs = omega (arith, c .before .before .before .before .before .
 narrow-places-requires : tie.Need-narrow-places-requires
 narrow-places-requires c κs =
     let pre = c .before .before .before .before .before .before .before .before .before .before .before .before .before .before .before .before .before .before .before .before .before .before .pre in
-    ((pre .0 .0, pre .0 .1, pre .1 .0 .0), (pre .1 .1 .0, omega (arith, pre .1 .1 .1 .1)))
+    ((pre .0 .0, pre .0 .1, pre .1 .0 .0), (pre .1 .1 .0, (c .before .before .before .before .before .before .before .before .before .before .before .before .before .narrow-optional .ensures .1 .1, omega (arith, pre .1 .1 .1 .1))))
 
 same-length : tie.Need-same-length
 same-length c = search needs
@@ -46,8 +46,8 @@ returns c =
     let stored = c .before .before .before .before .before .before .before .before .before .before .before .before .before .before .before .before .store .ensures in
     let optional = c .before .before .before .before .before .before .before .before .before .before .before .before .before .before .before .before .before .before .before .before .narrow-optional .ensures in
     let from = c .before .before .before .before .before .before .before .before .before .before .before .before .before .before .before .before .before .before .before .before .before .before .set-before .ensures in (
-      block-returned _ _ _ _ _ (pre .1 .1 .0) _ _ from _ _ (optional .0) (optional .1) _ (places .0),
-      block-written _ _ _ _ _ (pre .1 .1 .0) _ _ from _ _ (optional .0) (optional .1) _ _ _ _ _ _ _ _ _ _ (pre .1 .1 .1 .1)
+      block-returned _ _ _ _ _ (pre .1 .1 .0) _ _ from _ _ (optional .0) (optional .1 .0) _ (places .0),
+      block-written _ _ _ _ _ (pre .1 .1 .0) _ _ from _ _ (optional .0) (optional .1 .0) _ _ _ _ _ _ _ _ _ _ (pre .1 .1 .1 .1)
           (stored .0) (stored .1 .0) (stored .1 .1) (places .1),
     )
 

@@ -1,6 +1,7 @@
 -- `propagator::optional::narrow_optional` meets its contract. Assumes nothing.
 use borrow.Author.Needs.{needs}
 use Rattle.propagator.proofs.Levels.{optional-none, optional-some}
+use Rattle.propagator.proofs.Placing.{becomes-none, becomes-own}
 use Rattle.propagator.proofs.optional.narrow_optional.Statement.{statement}
 use Rattle.propagator.proofs.optional.narrow_optional.Tie as tie
 
@@ -8,7 +9,9 @@ intersection-requires : tie.Need-intersection-requires
 intersection-requires c κs = search needs
 
 returns : tie.Need-returns
-returns c = optional-none _ _ _ _ _ _ (c .before .if1 .taken) (c .intersection .ensures)
+returns c =
+    let (block, states) = optional-none _ _ _ _ _ _ (c .before .if1 .taken) (c .intersection .ensures) in
+    (block, (states, becomes-none _ _ (c .before .before .before .pre .0 .0 .small)))
 
 sub-level-of : tie.Need-sub-level-of
 sub-level-of c = search needs
@@ -35,9 +38,12 @@ returns-2 c =
     let kept = least .before in
     let level = kept .before in
     let start = level .before .before .before in
+    let place = kept .narrow-place .ensures in
+    let (block, states) =
     optional-some _ _ _ _ _ _ _ _ _ _ _ _ (start .pre .0 .0 .small) (level .before .if1 .left) (start .pre .1 .0) (start .pre .1 .1)
-    (search needs) (search needs) (level .level-of .ensures) (kept .narrow-place .ensures .0) (kept .narrow-place .ensures .1)
-    (least .fewest .ensures) (all .union .ensures) (c .intersection2 .ensures)
+    (search needs) (search needs) (level .level-of .ensures) (place .2 .letter) (place .2 .state) (least .fewest .ensures)
+    (all .union .ensures) (c .intersection2 .ensures) in
+    (block, (states, becomes-own _ _ _ _ _ place))
 
 pub narrow-optional-spec : {M : Type 1} → statement M
 narrow-optional-spec =

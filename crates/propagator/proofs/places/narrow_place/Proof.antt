@@ -1,5 +1,5 @@
 -- `propagator::places::narrow_place` meets its contract. Assumes nothing.
-use mathlib.Core.Path.{sym, _∙_}
+use mathlib.Core.Path.{refl, sym, _∙_}
 use mathlib.Core.Logic.{⊎-map}
 use native.Mathlib.Omega.{arith}
 use Rattle.bitset.proofs.Laws.{in-difference}
@@ -63,7 +63,8 @@ loop-again c =
 returns : tie.Need-returns Inv-loop μ-loop
 returns c =
     let start = c .before .before .before in
-    narrowing-ends _ (start .pre .0 .small) _ _ _ _ _ _ (c .before .loop .inv) (omega arith)
+    let (letter, state) = narrowing-ends _ (start .pre .0 .small) _ _ _ _ _ _ (c .before .loop .inv) (omega arith) in
+    (refl, refl, record { letter = letter; state = state })
 
 pub narrow-place-spec : {M : Type 1} → statement M
 narrow-place-spec =
