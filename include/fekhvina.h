@@ -35,8 +35,8 @@ extern "C" {
  * and is never refused by 10: no buffer is needed to find it. An answer may be longer than the mask; an answer buffer of
  * 6 + 12 * 1024 bytes always suffices.
  * Cost: linear in the bytes of the records, and for each block and each mandatory place at most about one look at each move of
- * the book, most often far fewer: what letters do is worked out once (README.md, "Speed"). An optional part takes up to two more
- * for each letter it may have, or for each state where these are fewer.
+ * the book, most often far fewer: what letters do is worked out once (README.md, "Speed"). An optional part takes up to two
+ * more for each letter it may have, or for each state where these are fewer.
  * Stack: under 43 kB.
  */
 
