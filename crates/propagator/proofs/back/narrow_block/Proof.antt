@@ -5,6 +5,14 @@ use Rattle.propagator.proofs.Returning.{inside-both, within-is, block-r
 use Rattle.propagator.proofs.back.narrow_block.Statement.{statement}
 use Rattle.propagator.proofs.back.narrow_block.Tie as tie
 
+-- where the optional part is done, before it is stored and the places are narrowed
+abbrev optional : tie.After-narrow-places-arg3 → tie.After-narrow-optional
+optional c = c .before .before .before .before .before .before .before .before .before .before .before .before .before
+
+-- where the function starts
+abbrev start : tie.After-narrow-optional → tie.Start
+start c = c .before .before .before .before .before .before .before .before .before
+
 cast-places : tie.Need-cast-places
 cast-places c = search needs
 
@@ -20,15 +28,18 @@ narrow-optional-requires c κs =
     ((pre .0 .0, pre .0 .1), (within-is _ _ _ _ _ (pre .1 .1 .0) _ _ (c .before .set-before .ensures) (pre .1 .1 .1 .0), inside-both _ _ (search needs) (search needs) (pre .1 .0 .1)))
 
 add-store : tie.Need-add-store
-add-store c = omega (arith, c .before .before .before .before .before .before .before .before .before .before .before .before .pre .1 .1 .1 .1, c .before .before .before .before .before .before .before .before .before .before .before .before .good .1 .1 .1 .1 .1 .1 .1 .1 .0)
+add-store c =
+    let start = start (c .before .before .before) in
+    omega (arith, start .pre .1 .1 .1 .1, start .good .1 .1 .1 .1 .1 .1 .1 .1 .0)
 
 store-requires : tie.Need-store-requires
-store-requires c κs = omega (arith, c .before .before .before .before .before .before .before .before .before .before .before .before .pre .1 .1 .1 .1)
+store-requires c κs = omega (arith, start (c .before .before .before) .pre .1 .1 .1 .1)
 
 narrow-places-requires : tie.Need-narrow-places-requires
 narrow-places-requires c κs =
-    let pre = c .before .before .before .before .before .before .before .before .before .before .before .before .before .before .before .before .before .before .before .before .before .before .pre in
-    ((pre .0 .0, pre .0 .1, pre .1 .0 .0), (pre .1 .1 .0, (c .before .before .before .before .before .before .before .before .before .before .before .before .before .narrow-optional .ensures .1 .1, omega (arith, pre .1 .1 .1 .1))))
+    let done = optional c in
+    let pre = start done .pre in
+    ((pre .0 .0, pre .0 .1, pre .1 .0 .0), (pre .1 .1 .0, (done .narrow-optional .ensures .1 .1, omega (arith, pre .1 .1 .1 .1))))
 
 same-length : tie.Need-same-length
 same-length c = search needs
@@ -41,13 +52,15 @@ same-length-3 c = search needs
 
 returns : tie.Need-returns
 returns c =
-    let pre = c .before .before .before .before .before .before .before .before .before .before .before .before .before .before .before .before .before .before .before .before .before .before .before .before .before .before .before .before .before .pre in
-    let places = c .before .before .before .before .before .before .narrow-places .ensures in
-    let stored = c .before .before .before .before .before .before .before .before .before .before .before .before .before .before .before .before .store .ensures in
-    let optional = c .before .before .before .before .before .before .before .before .before .before .before .before .before .before .before .before .before .before .before .before .narrow-optional .ensures in
-    let from = c .before .before .before .before .before .before .before .before .before .before .before .before .before .before .before .before .before .before .before .before .before .before .set-before .ensures in (
-      block-returned _ _ _ _ _ (pre .1 .1 .0) _ _ from _ _ (optional .0) (optional .1 .0) _ (places .0),
-      block-written _ _ _ _ _ (pre .1 .1 .0) _ _ from _ _ (optional .0) (optional .1 .0) _ _ _ _ _ _ _ _ _ _ (pre .1 .1 .1 .1)
+    let narrowed = c .before .before .before .before .before .before in
+    let done = optional (narrowed .before) in
+    let pre = start done .pre in
+    let places = narrowed .narrow-places .ensures in
+    let stored = narrowed .before .before .before .before .before .before .before .before .before .before .store .ensures in
+    let (block, (states, _)) = done .narrow-optional .ensures in
+    let from = done .before .before .set-before .ensures in (
+      block-returned _ _ _ _ _ (pre .1 .1 .0) _ _ from _ _ block states _ (places .0),
+      block-written _ _ _ _ _ (pre .1 .1 .0) _ _ from _ _ block states _ _ _ _ _ _ _ _ _ _ (pre .1 .1 .1 .1)
           (stored .0) (stored .1 .0) (stored .1 .1) (places .1),
     )
 
