@@ -133,7 +133,7 @@ $(TOOLS)/records: tools/records.c
 	@mkdir -p $(TOOLS)
 	@$(CC) $(CFLAGS) -o $@ tools/records.c
 
-# The gate, from nothing: proves every crate, tries every must-fail edit, then the tests in C. Its last line is
+# The gate, from nothing: proves every crate, tries every must-fail edit, then the hosts' tests. Its last line is
 # 'N passed, 0 failed', with all of them counted.
 test:
 	@hosts/gate
