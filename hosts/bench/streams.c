@@ -1,22 +1,20 @@
 /* Streams of masks through the line program: see bench.h. */
-#define _POSIX_C_SOURCE 200809L
 #include "bench.h"
 
 #include "process.h"
 #include "random.h"
+#include "temporary.h"
 #include "timing.h"
 #include "workloads.h"
 
 #include <stdio.h>
 #include <stdlib.h>
-#include <string.h>
-#include <unistd.h>
 
 enum { ROUNDS = 11, HEIGHTS_FED = 100000, FORMS_FED = 500 };
 
 static struct stream fed;
 
-static char file[] = "/tmp/fekhvina-bench-XXXXXX";
+static const char *file;
 
 static void feed(const struct bytes *record)
 {
@@ -92,25 +90,11 @@ static double run_program(const void *path, unsigned times)
     return taken;
 }
 
-static void remove_file(void)
-{
-    remove(file);
-}
-
-static void write_file(void)
-{
-    FILE *to = fopen(file, "wb");
-    if (to == NULL || fwrite(fed.at, 1, fed.len, to) != fed.len || fclose(to) != 0) {
-        perror(file);
-        exit(2);
-    }
-}
-
 /* Compares what both programs print, then times them. */
 static void bench_stream(const char *name, unsigned masks, const char *program, const char *plain_program)
 {
     struct stream printed, expected;
-    write_file();
+    write_file(file, fed.at, fed.len);
     run_on_file(program, NULL, &printed);
     run_on_file(plain_program, NULL, &expected);
     if (!stream_equal(&printed, &expected)) {
@@ -131,13 +115,7 @@ static void bench_stream(const char *name, unsigned masks, const char *program, 
 
 void bench_streams(const char *program, const char *plain_program)
 {
-    int made = mkstemp(file);
-    if (made < 0) {
-        perror(file);
-        exit(2);
-    }
-    close(made);
-    atexit(remove_file);
+    file = temporary_file();
     printf("\nStreams of masks from a file, whole runs of the line program, in milliseconds\n\n");
     printf("%-16s %19s %19s %15s\n", "", "product", "plain", "product/plain");
     printf("%-8s %7s %9s %9s %9s %9s %7s %7s %12s\n", "stream", "masks", "best", "median", "best", "median", "best", "median",

@@ -5,15 +5,14 @@
 #include "books.h"
 #include "count.h"
 #include "faults.h"
+#include "temporary.h"
 
 #include <stdio.h>
 #include <stdlib.h>
 #include <string.h>
 #include <sys/wait.h>
-#include <unistd.h>
 
-const char *form_path;
-char book_path[] = "/tmp/form-book-XXXXXX", mask_path[] = "/tmp/form-mask-XXXXXX";
+const char *form_path, *book_path, *mask_path;
 
 /* ---- what is shown */
 
@@ -44,15 +43,6 @@ void step_text(struct stream *to, const struct step *step, int how)
 }
 
 /* ---- running it */
-
-static void write_file(const char *path, const void *bytes, size_t len)
-{
-    FILE *file = fopen(path, "wb");
-    if (file == NULL || fwrite(bytes, 1, len, file) != len || fclose(file) != 0) {
-        perror(path);
-        exit(2);
-    }
-}
 
 void write_records(const char *book, const struct block *blocks, unsigned count)
 {
@@ -364,31 +354,14 @@ static void streams_refused(void)
     free(printed.at);
 }
 
-static void remove_files(void)
-{
-    remove(book_path);
-    remove(mask_path);
-}
-
-static void make_file(char *path)
-{
-    int file = mkstemp(path);
-    if (file < 0) {
-        perror(path);
-        exit(2);
-    }
-    close(file);
-}
-
 int main(int argc, char **argv)
 {
     if (argc != 4) {
         fprintf(stderr, "usage: forms FORM BOOK MASK\n");
         return 2;
     }
-    make_file(book_path);
-    make_file(mask_path);
-    atexit(remove_files);
+    book_path = temporary_file();
+    mask_path = temporary_file();
     form_path = argv[1];
     test_keys();
     keys_typed();

@@ -33,8 +33,7 @@ enum { PLAIN = 0, STYLED = 1, KEYBOARD = 2 };
 void step_text(struct stream *to, const struct step *step, int how);
 
 /* The path of the form, and of the files that a case makes for it. */
-extern const char *form_path;
-extern char book_path[], mask_path[];
+extern const char *form_path, *book_path, *mask_path;
 
 /* Writes the files of book and mask. */
 void write_records(const char *book, const struct block *blocks, unsigned count);

@@ -29,6 +29,10 @@ use Rattle.propagator.proofs.Targets.{in-limit}
 pub unwritten : (known : List ℕ) (a x b y j : ℕ) → ¬ (j ≡ a) → ¬ (j ≡ b) → getD (set (set known a x) b y) j 0 ≡ getD known j 0
 unwritten known a x b y j n m = getD-set-other (set known a x) b j y 0 m ∙ getD-set-other known a j x 0 n
 
+-- an element that the first of them makes 0
+pub cleared : (known : List ℕ) (a b y : ℕ) → a < length known → ¬ (a ≡ b) → getD (set (set known a 0) b y) a 0 ≡ 0
+cleared known a b y h n = getD-set-other (set known a 0) b a y 0 n ∙ getD-set-same known a 0 0 h
+
 -- the number of elements
 written-size : (known : List ℕ) (a x b y : ℕ) → length (set (set known a x) b y) ≡ length known
 written-size known a x b y = length-set (set known a x) b y ∙ length-set known a x
@@ -88,22 +92,18 @@ front-stays t S known new k size letters stay last =
 -- of another set of letters no state is known
 pub known-other : (t : Table) (S R : ℕ) (known : List ℕ) → Known t R known → Known t S (set (set known 64 0) 65 S)
 known-other t S R known k =
+    let none = cleared known 64 65 S (rw (k .size) (omega arith)) (λ e. omega arith) in
     behind-stays t R S known (set (set known 64 0) 65 S) k (written-size known 64 0 65 S)
     (getD-set-same (set known 64 0) 65 S 0 (rw (length-set known 64 0, k .size) (omega arith))) (λ q m. absurd (in-none (rw none at m)))
     (λ j h. unwritten known 64 0 65 S j (λ e. omega arith) (λ e. omega arith))
-  where
-    none : getD (set (set known 64 0) 65 S) 64 0 ≡ 0
-    none = getD-set-other (set known 64 0) 65 64 S 0 (λ e. omega arith) ∙ getD-set-same known 64 0 0 (rw (k .size) (omega arith))
 
 -- from other states no letter is known
 pub images-other : (t : Table) (S Q : ℕ) (known : List ℕ) → Known t S known → Known t S (set (set known 130 0) 131 Q)
 images-other t S Q known k =
+    let none = cleared known 130 131 Q (rw (k .size) (omega arith)) (λ e. omega arith) in
     front-stays t S known (set (set known 130 0) 131 Q) k (written-size known 130 0 131 Q) (λ c m. absurd (in-none (rw none at m)))
     (λ j h. unwritten known 130 0 131 Q j (λ e. omega arith) (λ e. omega arith))
     (unwritten known 130 0 131 Q 132 (λ e. omega arith) (λ e. omega arith))
-  where
-    none : getD (set (set known 130 0) 131 Q) 130 0 ≡ 0
-    none = getD-set-other (set known 130 0) 131 130 Q 0 (λ e. omega arith) ∙ getD-set-same known 130 0 0 (rw (k .size) (omega arith))
 
 module _ (t : Table) (S : ℕ) (known : List ℕ) (k : Known t S known) (q : ℕ) (small : q < 64) where
   -- a state that is known

@@ -6,7 +6,7 @@ use mathlib.Core.List.{List}
 use native.Mathlib.Omega.{arith}
 use lib.Dec.{T}
 use lib.ListN.{length, getD, set, length-set}
-use lib.Seq.{getD-set-same, getD-set-other}
+use lib.Seq.{getD-set-same}
 use Rattle.model.specs.declared.Block.{Block}
 use Rattle.model.specs.Set.{has, both, either}
 use Rattle.model.specs.Automaton.{Dfa, Table}
@@ -15,7 +15,7 @@ use Rattle.model.specs.Verdict.{someLegal}
 use Rattle.model.proofs.Set.{member, in-none, in-both, some-member}
 use Rattle.propagator.specs.Known.{Targets, Known}
 use Rattle.propagator.specs.Rows.{entriesTo, entering, Inside}
-use Rattle.propagator.proofs.Remembered.{unwritten}
+use Rattle.propagator.proofs.Remembered.{unwritten, cleared}
 use Rattle.propagator.proofs.Rows.{entering-last, list-whole}
 
 -- the slice has as many elements as before
@@ -38,9 +38,7 @@ known-none t known B size targets =
     no-state = unwritten (set known 64 0) 130 0 132 B 64 (λ e. omega arith) (λ e. omega arith) ∙ getD-set-same known 64 0 0 (rw size (omega arith))
 
     no-letter : getD (set (set (set known 64 0) 130 0) 132 B) 130 0 ≡ 0
-    no-letter =
-        getD-set-other (set (set known 64 0) 130 0) 132 130 B 0 (λ e. omega arith)
-        ∙ getD-set-same (set known 64 0) 130 0 0 (rw (length-set known 64 0, size) (omega arith))
+    no-letter = cleared (set known 64 0) 130 132 B (rw (length-set known 64 0, size) (omega arith)) (λ e. omega arith)
 
 module _ (d : Dfa) (xs : List Block) (n start states : ℕ) (first : start ≡ either 0 (2 ^ d .start)) (behind : states ≡ entering (d .table) start xs n)
     (size : length xs ≡ n) where
