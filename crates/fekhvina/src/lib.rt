@@ -3,17 +3,20 @@
 ghost use mathlib.Core.Path.{_≡_};
 ghost use lib.ListN.{length};
 ghost use Rattle.model.specs.Verdict.{number as verdictNumber};
+ghost use Rattle.operations.specs.Pair.{fromRecord, fromList};
 ghost use Rattle.operations.specs.Narrow.{narrowed, narrowNumbers, Narrows};
 ghost use Rattle.operations.specs.Placed.{placed, placeNumbers, Places};
 ghost use Rattle.operations.specs.Tidy.{tidied, tidyNumbers, Tidies};
 ghost use Rattle.operations.specs.Try as number;
 ghost use Rattle.operations.specs.Try.{tried, tryNumbers, Tries};
+use model::Block;
 use model::Verdict;
 use operations::NarrowAnswer;
 use operations::PlaceAnswer;
 use operations::TidyAnswer;
 use operations::TryAnswer;
 use operations::narrow;
+use operations::narrow_list;
 use operations::tidy;
 use operations::try_word;
 
@@ -66,9 +69,9 @@ fn verdict_number(verdict: Verdict) -> u32
 #[no_mangle]
 pub extern "C" fn fekhvina_narrow_refusal(book: &[u8], mask: &[u8], out: &mut [u8]) -> u32
     ensures { λ r. ⌜ (
-        let answer = narrowed (now (book .entry)) (now (mask .entry)) (length (now (out .entry))) in
+        let answer = narrowed (fromRecord (now (book .entry)) (now (mask .entry))) (length (now (out .entry))) in
         (r ≡ narrowNumbers answer .refusal)
-        × Narrows (now (book .entry)) (now (mask .entry)) (now (out .entry)) (now (out .exit)) answer) ⌝ }
+        × Narrows (fromRecord (now (book .entry)) (now (mask .entry))) (now (out .entry)) (now (out .exit)) answer) ⌝ }
 {
     narrow_refusal(narrow(book, mask, out))
 }
@@ -77,9 +80,9 @@ pub extern "C" fn fekhvina_narrow_refusal(book: &[u8], mask: &[u8], out: &mut [u
 #[no_mangle]
 pub extern "C" fn fekhvina_narrow_verdict(book: &[u8], mask: &[u8], out: &mut [u8]) -> u32
     ensures { λ r. ⌜ (
-        let answer = narrowed (now (book .entry)) (now (mask .entry)) (length (now (out .entry))) in
+        let answer = narrowed (fromRecord (now (book .entry)) (now (mask .entry))) (length (now (out .entry))) in
         (r ≡ narrowNumbers answer .verdict)
-        × Narrows (now (book .entry)) (now (mask .entry)) (now (out .entry)) (now (out .exit)) answer) ⌝ }
+        × Narrows (fromRecord (now (book .entry)) (now (mask .entry))) (now (out .entry)) (now (out .exit)) answer) ⌝ }
 {
     narrow_verdict(narrow(book, mask, out))
 }
@@ -88,11 +91,44 @@ pub extern "C" fn fekhvina_narrow_verdict(book: &[u8], mask: &[u8], out: &mut [u
 #[no_mangle]
 pub extern "C" fn fekhvina_narrow_bytes(book: &[u8], mask: &[u8], out: &mut [u8]) -> u32
     ensures { λ r. ⌜ (
-        let answer = narrowed (now (book .entry)) (now (mask .entry)) (length (now (out .entry))) in
+        let answer = narrowed (fromRecord (now (book .entry)) (now (mask .entry))) (length (now (out .entry))) in
         (r ≡ narrowNumbers answer .bytes)
-        × Narrows (now (book .entry)) (now (mask .entry)) (now (out .entry)) (now (out .exit)) answer) ⌝ }
+        × Narrows (fromRecord (now (book .entry)) (now (mask .entry))) (now (out .entry)) (now (out .exit)) answer) ⌝ }
 {
     narrow_bytes(narrow(book, mask, out))
+}
+
+// The refusal number of narrow on a list.
+#[no_mangle]
+pub extern "C" fn fekhvina_narrow_list_refusal(book: &[u8], blocks: &[Block], out: &mut [u8]) -> u32
+    ensures { λ r. ⌜ (
+        let answer = narrowed (fromList (now (book .entry)) (now (blocks .entry))) (length (now (out .entry))) in
+        (r ≡ narrowNumbers answer .refusal)
+        × Narrows (fromList (now (book .entry)) (now (blocks .entry))) (now (out .entry)) (now (out .exit)) answer) ⌝ }
+{
+    narrow_refusal(narrow_list(book, blocks, out))
+}
+
+// The number of its verdict.
+#[no_mangle]
+pub extern "C" fn fekhvina_narrow_list_verdict(book: &[u8], blocks: &[Block], out: &mut [u8]) -> u32
+    ensures { λ r. ⌜ (
+        let answer = narrowed (fromList (now (book .entry)) (now (blocks .entry))) (length (now (out .entry))) in
+        (r ≡ narrowNumbers answer .verdict)
+        × Narrows (fromList (now (book .entry)) (now (blocks .entry))) (now (out .entry)) (now (out .exit)) answer) ⌝ }
+{
+    narrow_verdict(narrow_list(book, blocks, out))
+}
+
+// The bytes that it wrote.
+#[no_mangle]
+pub extern "C" fn fekhvina_narrow_list_bytes(book: &[u8], blocks: &[Block], out: &mut [u8]) -> u32
+    ensures { λ r. ⌜ (
+        let answer = narrowed (fromList (now (book .entry)) (now (blocks .entry))) (length (now (out .entry))) in
+        (r ≡ narrowNumbers answer .bytes)
+        × Narrows (fromList (now (book .entry)) (now (blocks .entry))) (now (out .entry)) (now (out .exit)) answer) ⌝ }
+{
+    narrow_bytes(narrow_list(book, blocks, out))
 }
 
 // The refusal number of place's answer, 0 for none.

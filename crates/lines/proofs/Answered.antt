@@ -20,6 +20,7 @@ use Rattle.records.proofs.Offsets.{blocks-counted}
 use Rattle.records.proofs.RoundTrip.{length-mask, reads-back}
 use Rattle.operations.specs.declared.NarrowAnswer.{NarrowAnswer}
 use Rattle.operations.specs.declared.NarrowAnswer.the-variants.{Narrowed, Refused}
+use Rattle.operations.specs.Pair.{fromRecord}
 use Rattle.operations.specs.Narrow.{written, Narrows}
 use Rattle.operations.proofs.Pairs.{pair-room}
 use Rattle.operations.proofs.Told.{told-verdict, told-refusal}
@@ -49,7 +50,7 @@ record-of m Some ys fits = record-mask m ys fits
 
 -- ---- narrow's answer on a book and a mask
 
-module _ (bs ms old new : List ℕ) (bytes : Bytes ms) (room : 12294 ≤ length old) (a : NarrowAnswer) (narrows : Narrows bs ms old new a) where
+module _ (bs ms old new : List ℕ) (bytes : Bytes ms) (room : 12294 ≤ length old) (a : NarrowAnswer) (narrows : Narrows (fromRecord bs ms) old new a) where
   abbrev ys : List Block
   ys = narrowedMask (bookOf bs) (maskOf ms)
 

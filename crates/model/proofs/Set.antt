@@ -20,7 +20,7 @@ T-and true b = (λ h. (tt, h), λ h. h .1)
 T-and false b = (λ h. absurd h, λ h. absurd (h .0))
 
 -- one of the tests passes
-T-or : (a b : Bool) → T (a || b) ↔ (T a ⊎ T b)
+pub T-or : (a b : Bool) → T (a || b) ↔ (T a ⊎ T b)
 T-or true b = (λ h. inl tt, λ h. tt)
 T-or false b = (λ h. inr h, λ h. ⊎-elim (λ e. absurd e) (λ e. e) h)
 

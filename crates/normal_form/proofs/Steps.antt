@@ -7,14 +7,14 @@ use mathlib.Core.Logic.{_⊎_, ⊎-elim}
 use mathlib.Core.List.{List, [], _∷_}
 use native.Mathlib.Omega.{arith}
 use lib.ListN.{length, getD, drop, set}
-use lib.Seq.{drop-cons, set-getD}
+use lib.Seq.{set-getD}
 use borrow.Author.Tests.{eq-eqb, ne-eqb}
 use Rattle.model.specs.declared.Block.{Block}
 use Rattle.model.specs.DashedString.{block}
 use Rattle.model.specs.Size.{Room}
 use Rattle.model.specs.NormalForm.{idle, join, Apart}
 use Rattle.records.specs.Written.{numbered, blocksBetween, Enough}
-use Rattle.records.proofs.Copies.{stored-other}
+use Rattle.records.proofs.Copies.{between-cons, stored-other}
 use Rattle.normal_form.specs.Pushed.{inFront, Pushed}
 
 -- a list from element i on, where that was stored
@@ -31,12 +31,6 @@ join-apart x (y ∷ ys) h = rw (ne-eqb (x .base) (y .base) h)
 
 module _ (a b c : List ℕ) where
   module _ (i end : ℕ) (h : i < end) (e : Enough a b c end) where
-    -- the blocks from entry i on: that entry, and the others
-    pub between-cons : blocksBetween a b c i end ≡ numbered a b c i ∷ blocksBetween a b c (suc i) end
-    between-cons =
-        let more : end - i ≡ suc (end - suc i) = omega arith in
-        rw (more, drop-cons a i 0 (omega arith), drop-cons b i 0 (omega arith), drop-cons c i 0 (omega arith))
-
     -- where a block was stored as entry i
     pub between-set : (x : Block) → blocksBetween (set a i (x .base)) (set b i (x .lower)) (set c i (x .upper)) i end ≡ x ∷ blocksBetween a b c (suc i) end
     between-set x =

@@ -11,8 +11,8 @@ use Rattle.model.specs.Size.{Room}
 use Rattle.model.specs.NormalForm.{idle, dropped, join, joined, normal}
 use Rattle.model.proofs.Room.{normal-room}
 use Rattle.records.specs.Written.{numbered, blocksOf, blocksBetween, Enough}
+use Rattle.records.proofs.Copies.{between-cons}
 use Rattle.normal_form.specs.Pushed.{inFront, Pushed}
-use Rattle.normal_form.proofs.Steps.{between-cons}
 
 -- the normal form of one block more
 normal-cons : (x : Block) (xs : List Block) → normal (x ∷ xs) ≡ inFront x (normal xs)

@@ -17,7 +17,7 @@ use Rattle.model.proofs.Set.{member, in-both, some-member}
 use Rattle.model.proofs.Demand3.{stable}
 use Rattle.bitset.proofs.Laws.{decided, same-members}
 use Rattle.records.specs.Written.{numbered, blocksBetween, Enough}
-use Rattle.normal_form.proofs.Steps.{between-cons}
+use Rattle.records.proofs.Copies.{between-cons}
 
 -- ---- single blocks
 

@@ -7,6 +7,9 @@ pub mod Putting
 pub mod Passing
 pub mod Judging
 pub mod Narrowed
+pub mod Lists
+pub mod Filled
+pub mod Walking
 pub mod Told
 pub mod EntryNumbers
 pub mod Placed

@@ -1,10 +1,12 @@
 -- What a book and a mask taken together are, by what each reader answers.
 -- Assumes nothing.
-use Prim.Native.Nat.{ℕ, zero, suc, _<_}
+use Prim.Native.Nat.{ℕ, zero, suc, _≤_, _<_}
 use mathlib.Core.Path.{_≡_, refl, _∙_, sym}
 use mathlib.Core.Bool.{true, false}
 use mathlib.Core.List.{List}
 use native.Mathlib.Omega.{arith}
+use lib.ListN.{length}
+use Rattle.model.specs.Set.{someFrom}
 use Rattle.model.specs.Size.{Room}
 use Rattle.records.specs.declared.Book.{Book}
 use Rattle.records.specs.declared.BookOrRefusal.{BookOrRefusal}
@@ -14,14 +16,16 @@ use Rattle.records.specs.declared.MaskOrRefusal.{MaskOrRefusal}
 use Rattle.records.specs.declared.MaskOrRefusal.the-variants as maskAnswer
 use Rattle.records.specs.Bytes.{Bytes}
 use Rattle.records.specs.Book.{bookHead, bookRefusal, readBook, bookNumber}
-use Rattle.records.specs.Mask.{maskOf, maskRefusal, readMask, maskNumber, foreign}
+use Rattle.records.specs.Mask.{maskOf, numbersOf, maskOr, readMask, maskNumber, foreign}
 use Rattle.records.specs.WellFormed.{BookRecord, MaskRecord}
-use Rattle.records.proofs.Answers.{book-accepted, book-refused, mask-accepted, mask-refused}
+use Rattle.records.proofs.Answers.{book-accepted, book-refused, or-accepted, or-refused as mask-or-refused}
 use Rattle.records.proofs.Checks.{peel, on, off}
-use Rattle.records.proofs.WellFormed.{book-record, mask-record, record-fits}
+use Rattle.records.proofs.Offsets.{blocks-counted}
+use Rattle.records.proofs.Taking.{used-foreign}
+use Rattle.records.proofs.WellFormed.{book-record, mask-record, mask-blocks, record-fits}
 use Rattle.operations.specs.declared.pair.Pair.{Pair}
 use Rattle.operations.specs.declared.pair.PairOrRefusal.the-variants.{Accepted, Refused}
-use Rattle.operations.specs.Pair.{pairRefusal, pairHead, pairOr, readPair}
+use Rattle.operations.specs.Pair.{Given, fromRecord, givenRefusal, pairRefusal, pairOf, pairOr, readGiven, readPair, Ready}
 use Rattle.operations.proofs.Order.{refused-first, passed-first}
 
 -- a refusal is an answer of its own
@@ -29,80 +33,92 @@ or-refused : (p : Pair) (r : ℕ) → 0 < r → Refused r ≡ pairOr p r
 or-refused p zero h = absurd (omega arith)
 or-refused p (suc r) h = refl
 
-module _ (bs ms : List ℕ) where
+module _ (g : Given) where
   -- the book is refused
-  pub refused-book : (got : BookOrRefusal) (n r : ℕ) → got ≡ readBook bs → got ≡ bookAnswer.Refused n → r ≡ bookNumber got → Refused r ≡ readPair bs ms
-  unfolding pairRefusal readPair
+  pub refused-book : (got : BookOrRefusal) (n r : ℕ) → got ≡ readBook (g .book) → got ≡ bookAnswer.Refused n → r ≡ bookNumber got → Refused r ≡ readGiven g
+  unfolding givenRefusal readGiven
   refused-book got n r a b c =
-      let (e, l) = book-refused bs n (sym a ∙ b) in
+      let (e, l) = book-refused (g .book) n (sym a ∙ b) in
       rw (c, b, e, refused-first n _ l) (or-refused _ n l)
 
-  module _ (got : BookOrRefusal) (b : Book) (read : got ≡ readBook bs) (is : got ≡ bookAnswer.Accepted b) where
+  -- it is not, and there is a mask or its refusal
+  module _ (b : Book) (read : readBook (g .book) ≡ bookAnswer.Accepted b) (got : MaskOrRefusal) (reads : got ≡ maskOr (numbersOf (g .blocks)) (g .failing)) where
     -- the mask is refused
-    pub refused-mask : (got' : MaskOrRefusal) (n r : ℕ) → got' ≡ readMask ms → got' ≡ maskAnswer.Refused n → r ≡ maskNumber got' → Refused r ≡ readPair bs ms
-    unfolding pairRefusal readPair
-    refused-mask got' n r a b' c =
-        let (e, l) = mask-refused ms n (sym a ∙ b') in
-        let (none, head) = book-accepted bs b (sym read ∙ is) in
-        rw (c, b', none, e, refused-first n _ l) (or-refused _ n l)
+    pub refused-mask : (n r : ℕ) → got ≡ maskAnswer.Refused n → r ≡ maskNumber got → Refused r ≡ readGiven g
+    unfolding givenRefusal readGiven
+    refused-mask n r is c =
+        let (e, l) = mask-or-refused _ n (g .failing) (sym reads ∙ is) in
+        let (none, head) = book-accepted (g .book) b read in
+        rw (c, is, none, e, refused-first n _ l) (or-refused _ n l)
 
-    module _ (got' : MaskOrRefusal) (x : Mask) (read' : got' ≡ readMask ms) (is' : got' ≡ maskAnswer.Accepted x) where
+    module _ (x : Mask) (is : got ≡ maskAnswer.Accepted x) where
       -- a letter of the mask is not the book's
-      pub refused-foreign : foreign (b .letters) (maskOf ms) ≡ true → Refused 9 ≡ readPair bs ms
-      unfolding pairRefusal readPair
+      pub refused-foreign : someFrom (x .used) (b .letters) ≡ true → Refused 9 ≡ readGiven g
+      unfolding givenRefusal readGiven
       refused-foreign f =
-          let (none, head) = book-accepted bs b (sym read ∙ is) in
-          let (none', head') = mask-accepted ms x (sym read' ∙ is') in
-          rw (none, none', on _ 9 0 (rw head at f))
+          let (none, head) = book-accepted (g .book) b read in
+          let (passed, numbers) = or-accepted _ x (g .failing) (sym reads ∙ is) in
+          rw (none, passed, on _ 9 0 (sym (used-foreign _ (g .blocks)) ∙ (rw (head, numbers) at f)))
 
       -- both are accepted
-      pub accepted-pair : foreign (b .letters) (maskOf ms) ≡ false → Accepted (record { book = b; mask = x }) ≡ readPair bs ms
-      unfolding pairRefusal readPair
+      pub accepted-pair : someFrom (x .used) (b .letters) ≡ false → Accepted (record { book = b; mask = x }) ≡ readGiven g
+      unfolding givenRefusal readGiven
       accepted-pair f =
-          let (none, head) = book-accepted bs b (sym read ∙ is) in
-          let (none', head') = mask-accepted ms x (sym read' ∙ is') in
-          rw (none, none', off _ 9 0 (rw head at f), head, head')
+          let (none, head) = book-accepted (g .book) b read in
+          let (passed, numbers) = or-accepted _ x (g .failing) (sym reads ∙ is) in
+          rw (none, passed, off _ 9 0 (sym (used-foreign _ (g .blocks)) ∙ (rw (head, numbers) at f)), head, numbers)
 
 -- ---- what the answer tells, for who takes it apart
 
--- a refusal: the number is that of the checks, and not 0
-pub pair-refused : (bs ms : List ℕ) (n : ℕ) → readPair bs ms ≡ Refused n → (pairRefusal bs ms ≡ n) × (0 < n)
-unfolding readPair
-pair-refused bs ms n = go (pairRefusal bs ms)
-  where
-    go : (r : ℕ) → pairOr (pairHead bs ms) r ≡ Refused n → (r ≡ n) × (0 < n)
-    go zero e = absurd (let z : _≡_ {A = ℕ} 0 1 = cc in omega arith)
-    go (suc r) e = let same : suc r ≡ n = cc in (same, omega arith)
+module _ (g : Given) where
+  -- a refusal: the number is that of the checks, and not 0
+  pub given-refused : (n : ℕ) → readGiven g ≡ Refused n → (givenRefusal g ≡ n) × (0 < n)
+  unfolding readGiven
+  given-refused n = go (givenRefusal g)
+    where
+      go : (r : ℕ) → pairOr (pairOf (g .book) (g .blocks)) r ≡ Refused n → (r ≡ n) × (0 < n)
+      go zero e = absurd (let z : _≡_ {A = ℕ} 0 1 = cc in omega arith)
+      go (suc r) e = let same : suc r ≡ n = cc in (same, omega arith)
 
--- a book and a mask: no check refused them, and these are their numbers
-pub pair-accepted : (bs ms : List ℕ) (p : Pair) → readPair bs ms ≡ Accepted p → (pairRefusal bs ms ≡ 0) × (p ≡ pairHead bs ms)
-unfolding readPair
-pair-accepted bs ms p = go (pairRefusal bs ms)
-  where
-    go : (r : ℕ) → pairOr (pairHead bs ms) r ≡ Accepted p → (r ≡ 0) × (p ≡ pairHead bs ms)
-    go zero e = (refl, cc)
-    go (suc r) e = absurd (let z : _≡_ {A = ℕ} 0 1 = cc in omega arith)
+  -- a book and a mask: no check refused them, and these are their numbers
+  pub given-accepted : (p : Pair) → readGiven g ≡ Accepted p → (givenRefusal g ≡ 0) × (p ≡ pairOf (g .book) (g .blocks))
+  unfolding readGiven
+  given-accepted p = go (givenRefusal g)
+    where
+      go : (r : ℕ) → pairOr (pairOf (g .book) (g .blocks)) r ≡ Accepted p → (r ≡ 0) × (p ≡ pairOf (g .book) (g .blocks))
+      go zero e = (refl, cc)
+      go (suc r) e = absurd (let z : _≡_ {A = ℕ} 0 1 = cc in omega arith)
 
--- no check of either refuses them
-pub pair-checks : (bs ms : List ℕ) → pairRefusal bs ms ≡ 0
-    → (bookRefusal bs ≡ 0) × (maskRefusal ms ≡ 0) × (foreign (bookHead bs .letters) (maskOf ms) ≡ false)
-unfolding pairRefusal
-pair-checks bs ms h =
-    let (book, h) = passed-first (bookRefusal bs) _ h in
-    let (mask, h) = passed-first (maskRefusal ms) _ h in
-    (book, mask, peel _ 8 0 h .0)
+  -- no check of either refuses them
+  pub given-checks : givenRefusal g ≡ 0
+      → (bookRefusal (g .book) ≡ 0) × (g .failing ≡ 0) × (foreign (bookHead (g .book) .letters) (g .blocks) ≡ false)
+  unfolding givenRefusal
+  given-checks h =
+      let (book, h) = passed-first (bookRefusal (g .book)) _ h in
+      let (mask, h) = passed-first (g .failing) _ h in
+      (book, mask, peel _ 8 0 h .0)
+
+-- the blocks of two records are ready for the passes
+pub pair-ready : (bs ms : List ℕ) (p : Pair) → readPair bs ms ≡ Accepted p → Ready bs (maskOf ms) p
+pair-ready bs ms p h =
+    let (none, numbers) = given-accepted (fromRecord bs ms) p h in
+    let (book, mask, letters) = given-checks (fromRecord bs ms) none in
+    let few : length (maskOf ms) ≤ 1024 = omega (arith, blocks-counted ms, mask-record ms mask .few) in
+    record { book = book; few = few; mask = mask-blocks ms mask; letters = letters; numbers = numbers }
 
 -- both are well-formed records
 pub pair-records : (bs ms : List ℕ) → pairRefusal bs ms ≡ 0 → BookRecord bs × MaskRecord ms
-pair-records bs ms h = let (book, mask, _) = pair-checks bs ms h in (book-record bs book, mask-record ms mask)
+pair-records bs ms h = let (book, mask, _) = given-checks (fromRecord bs ms) h in (book-record bs book, mask-record ms mask)
 
 -- the mask has room, for the letters of the book
 pub pair-room : (bs ms : List ℕ) → Bytes ms → pairRefusal bs ms ≡ 0 → Room (bookHead bs .letters) (maskOf ms)
 pair-room bs ms bytes h =
-    let (_, mask, letters) = pair-checks bs ms h in
+    let (_, mask, letters) = given-checks (fromRecord bs ms) h in
     record-fits (bookHead bs .letters) ms bytes mask letters .room
 
 -- the mask is that of its own reader
 pub pair-mask : (bs ms : List ℕ) (p : Pair) → readPair bs ms ≡ Accepted p → readMask ms ≡ maskAnswer.Accepted (p .mask)
 unfolding readMask
-pair-mask bs ms p h = let (none, head) = pair-accepted bs ms p h in rw (pair-checks bs ms none .1, head)
+pair-mask bs ms p h =
+    let (none, numbers) = given-accepted (fromRecord bs ms) p h in
+    rw (given-checks (fromRecord bs ms) none .1, numbers)

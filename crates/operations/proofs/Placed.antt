@@ -24,18 +24,18 @@ use Rattle.records.specs.Mask.{count, maskOf, maskRefusal}
 use Rattle.records.specs.Written.{numbered, blocksOf}
 use Rattle.records.proofs.Checks.{on, off, neither}
 use Rattle.records.proofs.Offsets.{blocks-counted}
-use Rattle.records.proofs.WellFormed.{checked}
+use Rattle.records.proofs.WellFormed.{mask-record, checked}
 use Rattle.propagator.proofs.Slices.{entry-at}
 use Rattle.operations.specs.declared.pair.Pair.{Pair}
 use Rattle.operations.specs.declared.pair.PairOrRefusal.{PairOrRefusal}
 use Rattle.operations.specs.declared.pair.PairOrRefusal.the-variants as pairAnswer
 use Rattle.operations.specs.declared.PlaceAnswer.the-variants.{Placed, Refused}
-use Rattle.operations.specs.Pair.{pairRefusal, readPair, pairNumber}
+use Rattle.operations.specs.Pair.{fromRecord, pairRefusal, readPair, pairNumber}
 use Rattle.operations.specs.Passes.{Found}
 use Rattle.operations.specs.Placed.{missing, placeRefusal, entryAt, placeOr, placed, placeNumbers, Places}
 use Rattle.operations.proofs.EntryNumbers.{entry-within}
 use Rattle.operations.proofs.Order.{refused-first}
-use Rattle.operations.proofs.Pairs.{pair-refused, pair-accepted, pair-checks}
+use Rattle.operations.proofs.Pairs.{given-refused, given-accepted, given-checks, pair-ready}
 use Rattle.operations.proofs.Passing.{found-legal}
 
 -- ---- check 11
@@ -82,10 +82,10 @@ place-letters : (bs ms : List ℕ) (i j : ℕ) → pairRefusal bs ms ≡ 0 → m
 place-letters bs ms zero j none h l c = absurd (omega (arith, none-missing (maskOf ms) 0 j h .0))
 place-letters bs ms (suc i) zero none h l c = absurd (omega arith)
 place-letters bs ms (suc i) (suc j) none h l c =
-    let (book, mask, _) = pair-checks bs ms none in
+    let (book, mask, _) = given-checks (fromRecord bs ms) none in
     let back : (n : ℕ) → suc n - 1 ≡ n = λ n. omega arith in
     let (_, within, lower) = rw (back i) at (none-missing (maskOf ms) (suc i) (suc j) h) in
-    rw (back i, back j) (demand-3 (bookOf bs) (maskOf ms) (checked bs ms book mask) .places i j c within (omega arith))
+    rw (back i, back j) (demand-3 (bookOf bs) (maskOf ms) (checked bs (maskOf ms) book (mask-record ms mask .bounds)) .places i j c within (omega arith))
 
 -- the set and bounds
 answering : (bs ms : List ℕ) (i j : ℕ) → pairRefusal bs ms ≡ 0 → missing (maskOf ms) i j ≡ false
@@ -106,12 +106,12 @@ module _ (bs ms : List ℕ) (i j : ℕ) (got : PairOrRefusal) (read : got ≡ re
   pub place-refused : (n r : ℕ) → got ≡ pairAnswer.Refused n → r ≡ pairNumber got → Places bs ms i j (Refused r)
   unfolding placeRefusal
   place-refused n r is e =
-      let (same, l) = pair-refused bs ms n (sym read ∙ is) in
+      let (same, l) = given-refused (fromRecord bs ms) n (sym read ∙ is) in
       rw (e, is) (refusing bs ms i j n (rw (same, refused-first n _ l)) l)
 
   module _ (p : Pair) (is : got ≡ pairAnswer.Accepted p) where
     none : pairRefusal bs ms ≡ 0
-    none = pair-accepted bs ms p (sym read ∙ is) .0
+    none = given-accepted (fromRecord bs ms) p (sym read ∙ is) .0
 
     -- the block or its place is missing
     pub place-missing : missing (maskOf ms) i j ≡ true → Places bs ms i j (Refused 11)
@@ -144,7 +144,7 @@ module _ (b : Dfa) (xs : List Block) (n : ℕ) where
 module _ (bs ms : List ℕ) (p : Pair) (read : readPair bs ms ≡ pairAnswer.Accepted p) where
   -- the mask is not refused
   pub pair-mask-none : maskRefusal ms ≡ 0
-  pair-mask-none = pair-checks bs ms (pair-accepted bs ms p read .0) .1
+  pair-mask-none = given-checks (fromRecord bs ms) (given-accepted (fromRecord bs ms) p read .0) .1
 
   -- a block number and a place that are not missing
   module _ (i j : ℕ) (there : missing (maskOf ms) i j ≡ false) where
@@ -158,19 +158,19 @@ module _ (bs ms : List ℕ) (p : Pair) (read : readPair bs ms ≡ pairAnswer.Acc
     pub entry-there : (n : ℕ) → n ≡ entryOf (maskOf ms) (i - 1) j → n < lowerSum (maskOf ms) + p .mask .blocks
     entry-there n e =
         let (_, within, lower) = none-missing (maskOf ms) i j there in
-        rw (e, pair-accepted bs ms p read .1, ← blocks-counted ms) (entry-within (maskOf ms) (i - 1) j within lower)
+        rw (e, given-accepted (fromRecord bs ms) p read .1) (entry-within (maskOf ms) (i - 1) j within lower)
 
   -- what the passes found: states s, and k entries in the slices; r are the states among s that accept
   module _ (n s k : ℕ) (bases lowers uppers : List ℕ) (small : s < 2 ^ 64) (found : Found (bookOf bs) (maskOf ms) s (blocksOf bases lowers uppers k))
       (r : ℕ) (shared : r ≡ both s (p .book .accepting)) where
     -- no code is legal
     pub placed-none : r ≡ 0 → block 0 0 0 ≡ entryAt (bookOf bs) (maskOf ms) n
-    placed-none z = entry-none (bookOf bs) (maskOf ms) n (found-legal bs ms p read s _ small found r shared .0 z)
+    placed-none z = entry-none (bookOf bs) (maskOf ms) n (found-legal bs (maskOf ms) p (pair-ready bs ms p read) s _ small found r shared .0 z)
 
     -- some is
     pub placed-some : ¬ (r ≡ 0) → n < k → (x : Block) → x ≡ numbered bases lowers uppers n → x ≡ entryAt (bookOf bs) (maskOf ms) n
     placed-some z h x is =
-        let legal = found-legal bs ms p read s _ small found r shared .1 z in
+        let legal = found-legal bs (maskOf ms) p (pair-ready bs ms p read) s _ small found r shared .1 z in
         is ∙ sym (entry-at bases lowers uppers k n h) ∙ rw (found .list (rw legal tt)) (entry-some (bookOf bs) (maskOf ms) n legal)
 
 -- the refusal number at the host is that of the checks

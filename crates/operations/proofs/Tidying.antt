@@ -20,6 +20,7 @@ use Rattle.records.specs.Written.{maskBytes}
 use Rattle.records.proofs.Answers.{mask-accepted, mask-refused, mask-holds}
 use Rattle.records.proofs.Checks.{on, off}
 use Rattle.records.proofs.Offsets.{blocks-counted}
+use Rattle.records.proofs.Offsets.{blocks-counted}
 use Rattle.records.proofs.Over.{take-over}
 use Rattle.records.proofs.RoundTrip.{length-mask, reads-back}
 use Rattle.records.proofs.WellFormed.{mask-record, record-fits-64}
@@ -34,7 +35,7 @@ pub mask-blocks : (ms : List ℕ) (x : Mask) → Bytes ms → readMask ms ≡ ma
     → ((x .blocks ≡ count ms) × (6 + 12 * x .blocks ≤ length ms)) × ((x .blocks ≤ 1024) × Room 64 (maskOf ms))
 mask-blocks ms x bytes h =
     let (none, head) = mask-accepted ms x h in
-    (mask-holds ms x h, (rw head (mask-record ms none .few), record-fits-64 ms bytes none .room))
+    (mask-holds ms x h, (rw (head, blocks-counted ms) (mask-record ms none .few), record-fits-64 ms bytes none .room))
 
 -- a copy of the blocks has room where they have
 pub copied-room : (xs ys : List Block) → xs ≡ ys → Room 64 ys → Room 64 xs

@@ -22,10 +22,10 @@ use Rattle.operations.specs.declared.pair.Pair.{Pair}
 use Rattle.operations.specs.declared.pair.PairOrRefusal.{PairOrRefusal}
 use Rattle.operations.specs.declared.pair.PairOrRefusal.the-variants as pairAnswer
 use Rattle.operations.specs.declared.TryAnswer.the-variants.{Tried, Refused}
-use Rattle.operations.specs.Pair.{pairRefusal, readPair, pairNumber}
+use Rattle.operations.specs.Pair.{fromRecord, pairRefusal, readPair, pairNumber}
 use Rattle.operations.specs.Try.{tryRefusal, tryOr, tried, tryNumbers, yes, Tries}
 use Rattle.operations.proofs.Order.{refused-first}
-use Rattle.operations.proofs.Pairs.{pair-refused, pair-accepted, pair-records, pair-mask}
+use Rattle.operations.proofs.Pairs.{given-refused, given-accepted, pair-records, pair-mask}
 
 -- a refusal
 refusing : (bs ms w : List ℕ) (r : ℕ) → tryRefusal bs ms w ≡ r → 0 < r → Tries bs ms w (Refused r)
@@ -53,12 +53,12 @@ module _ (bs ms w : List ℕ) (got : PairOrRefusal) (read : got ≡ readPair bs 
   pub try-refused : (n r : ℕ) → got ≡ pairAnswer.Refused n → r ≡ pairNumber got → Tries bs ms w (Refused r)
   unfolding tryRefusal
   try-refused n r is e =
-      let (same, l) = pair-refused bs ms n (sym read ∙ is) in
+      let (same, l) = given-refused (fromRecord bs ms) n (sym read ∙ is) in
       rw (e, is) (refusing bs ms w n (rw (same, refused-first n _ l)) l)
 
   module _ (p : Pair) (is : got ≡ pairAnswer.Accepted p) where
     none : pairRefusal bs ms ≡ 0
-    none = pair-accepted bs ms p (sym read ∙ is) .0
+    none = given-accepted (fromRecord bs ms) p (sym read ∙ is) .0
 
     -- the code is too long
     pub try-long : 1024 < length w → Tries bs ms w (Refused 12)
@@ -69,7 +69,7 @@ module _ (bs ms w : List ℕ) (got : PairOrRefusal) (read : got ≡ readPair bs 
     pub try-strange : length w ≤ 1024 → strange (p .book .letters) w ≡ true → Tries bs ms w (Refused 13)
     unfolding tryRefusal
     try-strange h s =
-        let s' = rw (pair-accepted bs ms p (sym read ∙ is) .1) at s in
+        let s' = rw (given-accepted (fromRecord bs ms) p (sym read ∙ is) .1) at s in
         refusing bs ms w 13 (rw none (off _ 12 _ (le-ltb 1024 (length w) h) ∙ on _ 13 0 s')) (omega arith)
 
     -- it is tried
@@ -78,22 +78,18 @@ module _ (bs ms w : List ℕ) (got : PairOrRefusal) (read : got ≡ readPair bs 
           → Tries bs ms w (Tried m b)
       unfolding movesOf tryRefusal
       try-answers m b d e =
-          let (z, head) = pair-accepted bs ms p (sym read ∙ is) in
+          let (z, head) = given-accepted (fromRecord bs ms) p (sym read ∙ is) in
           let passes : tryRefusal bs ms w ≡ 0 = rw z (off _ 12 _ (le-ltb 1024 (length w) h) ∙ off _ 13 0 (rw head at s)) in
           rw (d, rw (head, part-rest 15 bs) at e) (answering bs ms w passes)
 
 -- ---- what the two questions need
-
--- the book has a head
-pub book-long : (bs ms : List ℕ) (p : Pair) → readPair bs ms ≡ pairAnswer.Accepted p → 15 ≤ length bs
-book-long bs ms p read = omega (arith, pair-records bs ms (pair-accepted bs ms p read .0) .0 .size)
 
 module _ (bs ms w : List ℕ) (p : Pair) (read : readPair bs ms ≡ pairAnswer.Accepted p) where
   -- the mask holds its blocks, and the code's letters can be in its sets
   pub mask-question : length w ≤ 1024 → strange (p .book .letters) w ≡ false
       → ((p .mask .blocks ≡ count ms) × (6 + 12 * p .mask .blocks ≤ length ms)) × ((length w ≤ 1024) × Letters 64 w)
   mask-question h s =
-      let (none, head) = pair-accepted bs ms p read in
+      let (none, head) = given-accepted (fromRecord bs ms) p read in
       let few = pair-records bs ms none .0 .sound .letters in
       let letters = none-strange (p .book .letters) w .0 s in
       (mask-holds ms (p .mask) (pair-mask bs ms p read), (h, λ i l. omega (arith, rw head at (letters i l), few)))
@@ -103,7 +99,7 @@ module _ (bs ms w : List ℕ) (p : Pair) (read : readPair bs ms ≡ pairAnswer.A
       → ((p .book .start < p .book .states) × (p .book .states < 64)
       × (p .book .states * p .book .letters ≤ length (take (length bs - 15) (drop 15 bs)))) × Letters (p .book .letters) w
   book-question s =
-      let (none, head) = pair-accepted bs ms p read in
+      let (none, head) = given-accepted (fromRecord bs ms) p read in
       let book = pair-records bs ms none .0 in
       rw (part-rest 15 bs, head) ((book .sound .start, book .sound .states, omega (arith, book .size, length-drop 15 bs)), none-strange _ w .0 (rw head at s))
 

@@ -4,6 +4,7 @@ use mathlib.Core.Path.{_≡_}
 use mathlib.Core.Bool.{true, false}
 use mathlib.Core.List.{List, [], _∷_, _++_}
 use lib.ListN.{length, replicate}
+use Rattle.model.specs.declared.Block.{Block}
 use Rattle.model.specs.declared.Verdict.the-variants.{None, All, One, Some}
 use Rattle.model.specs.DashedString.{block}
 use Rattle.records.specs.Written.{maskBytes}
@@ -15,23 +16,26 @@ use Rattle.operations.specs.declared.TidyAnswer.{TidyAnswer}
 use Rattle.operations.specs.declared.TidyAnswer.the-variants as tidy
 use Rattle.operations.specs.declared.TryAnswer.{TryAnswer}
 use Rattle.operations.specs.declared.TryAnswer.the-variants as try
+use Rattle.operations.specs.Pair.{fromRecord, fromList}
 use Rattle.operations.specs.Narrow.{narrowed, narrowBuffer}
 use Rattle.operations.specs.Placed.{placed}
 use Rattle.operations.specs.Tidy.{tidied, tidyBuffer}
 use Rattle.operations.specs.Try.{tried}
 
--- a book, a mask and an answer buffer, with narrow's answer and the buffer behind it; a book, a mask, a block number and a place,
+-- a book, a mask and an answer buffer, with narrow's answer and the buffer behind it; the same, of a list of blocks; a book, a mask, a block number and a place,
 -- with place's answer; a mask and an answer buffer, with tidy's answer and the buffer behind it; a book, a mask and a code, with
 -- try's answer
 pub data Row : Type 0 where
   narrows : List ℕ → List ℕ → List ℕ → NarrowAnswer → List ℕ → Row
+  lists : List ℕ → List Block → List ℕ → NarrowAnswer → List ℕ → Row
   places : List ℕ → List ℕ → ℕ → ℕ → PlaceAnswer → Row
   tidies : List ℕ → List ℕ → TidyAnswer → List ℕ → Row
   tries : List ℕ → List ℕ → List ℕ → TryAnswer → Row
 
 -- the definitions give what the row says
 abbrev pub Holds : Row → Type 0
-Holds (narrows bs ms old a new) = (narrowed bs ms (length old) ≡ a) × (narrowBuffer bs ms old ≡ new)
+Holds (narrows bs ms old a new) = (narrowed (fromRecord bs ms) (length old) ≡ a) × (narrowBuffer (fromRecord bs ms) old ≡ new)
+Holds (lists bs xs old a new) = (narrowed (fromList bs xs) (length old) ≡ a) × (narrowBuffer (fromList bs xs) old ≡ new)
 Holds (places bs ms i j a) = placed bs ms i j ≡ a
 Holds (tidies ms old a new) = (tidied ms (length old) ≡ a) × (tidyBuffer ms old ≡ new)
 Holds (tries bs ms w a) = tried bs ms w ≡ a
@@ -90,6 +94,15 @@ samples =
     -- a bad mask and no byte; 9 and no byte
     ∷ narrows C (4 ∷ 0 ∷ 1 ∷ 0 ∷ []) [] (narrow.Refused 2) []
     ∷ narrows C foreign [] (narrow.Refused 9) []
+    -- from a list: some; none, of no blocks
+    ∷ lists A (block 0b111 0 2 ∷ []) (filled 20) (narrow.Narrowed Some 18) (maskBytes (block 0b111 1 2 ∷ []) ++ filled 2)
+    ∷ lists B [] [] (narrow.Narrowed None 0) []
+    -- a bad book and 1,025 blocks; 1,025 blocks and l above u; l above u and uppers of 1,025; these and 9; 9 and no byte
+    ∷ lists [] (replicate 1025 (block 0b100 1 0)) [] (narrow.Refused 1) []
+    ∷ lists C (replicate 1025 (block 0b100 1 0)) [] (narrow.Refused 4) []
+    ∷ lists C (block 0b100 1 0 ∷ block 0b100 0 1025 ∷ []) [] (narrow.Refused 7) []
+    ∷ lists C (block 0b100 0 1025 ∷ []) [] (narrow.Refused 8) []
+    ∷ lists C (block 0b100 0 1 ∷ []) [] (narrow.Refused 9) []
     -- two places and no optional part behind them; an optional part alone; a place of a second block; none
     ∷ places B two 1 1 (place.Placed (block 0b011 1 1))
     ∷ places B two 1 2 (place.Placed (block 0b100 1 1))

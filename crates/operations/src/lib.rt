@@ -1,16 +1,19 @@
 // The operations of document 01 on records. What they answer, write and mean stands in specs/.
+ghost use Rattle.operations.specs.Pair.{fromRecord, fromList};
 ghost use Rattle.operations.specs.Narrow.{Narrows};
 ghost use Rattle.operations.specs.Placed.{Places};
 ghost use Rattle.operations.specs.Tidy.{Tidies};
 ghost use Rattle.operations.specs.Try.{Tries};
 
 mod answer;
+mod listed;
 mod narrowing;
 mod pair;
 mod passes;
 mod placing;
 
 use answer::write_tidied;
+use listed::narrow_table;
 use model::Block;
 use model::Verdict;
 use narrowing::narrow_large;
@@ -49,7 +52,7 @@ pub enum TryAnswer {
 // Narrow: the verdict on a book and a mask, with the narrowed mask written over the first bytes of `out`; for none nothing is
 // written. Book checks, mask checks, 9, 10. A small mask takes little of the stack.
 pub fn narrow(book: &[u8], mask: &[u8], out: &mut [u8]) -> NarrowAnswer
-    ensures { λ r. ⌜ Narrows (now (book .entry)) (now (mask .entry)) (now (out .entry)) (now (out .exit)) r ⌝ }
+    ensures { λ r. ⌜ Narrows (fromRecord (now (book .entry)) (now (mask .entry))) (now (out .entry)) (now (out .exit)) r ⌝ }
 {
     let got = read_pair(book, mask);
     let PairOrRefusal::Accepted(pair) = got else {
@@ -59,6 +62,27 @@ pub fn narrow(book: &[u8], mask: &[u8], out: &mut [u8]) -> NarrowAnswer
         return narrow_small(pair, book, mask, out);
     }
     narrow_large(pair, book, mask, out)
+}
+
+// Narrow on a mask that is lent as a list of blocks. Book checks, 4, 7, 8, 9, 10. It copies the first 1,024 blocks; all else is
+// `narrow_table`'s.
+pub fn narrow_list(book: &[u8], blocks: &[Block], out: &mut [u8]) -> NarrowAnswer
+    ensures { λ r. ⌜ Narrows (fromList (now (book .entry)) (now (blocks .entry))) (now (out .entry)) (now (out .exit)) r ⌝ }
+{
+    let count = blocks.len();
+    let mut table = [Block {
+        base: 0,
+        lower: 0,
+        upper: 0,
+    }; 1024];
+    let mut i = 0;
+    while i < 1024 {
+        if i < count {
+            table[i] = blocks[i];
+        }
+        i += 1;
+    }
+    narrow_table(book, table, count, out)
 }
 
 // Tidy: writes the normal form of a mask over the first bytes of `out`. Mask checks, then 10.

@@ -8,13 +8,13 @@ ghost use Rattle.model.specs.Verdict.{single, every, say};
 ghost use Rattle.model.specs.Size.{Room};
 ghost use Rattle.records.specs.Written.{maskBytes, blocksOf, blocksBetween, Enough};
 ghost use Rattle.operations.specs.declared.pair.PairOrRefusal.the-variants.{Accepted};
-ghost use Rattle.operations.specs.Pair.{readPair};
+ghost use Rattle.operations.specs.Pair.{fromRecord, readPair, Ready};
 ghost use Rattle.operations.specs.Passes.{Lent};
 ghost use Rattle.operations.specs.Narrow.{Answers, Narrows};
 use crate::NarrowAnswer;
 use crate::answer::write_answer;
 use crate::pair::Pair;
-use crate::passes::pass_mask;
+use crate::passes::pass_blocks;
 use model::Verdict;
 
 // Whether each block from entry `first` up to `end` of the three slices has one letter and l = u.
@@ -78,11 +78,10 @@ fn conclude(
     NarrowAnswer::Narrowed { verdict, bytes }
 }
 
-// Narrow in lent room.
-fn narrow_in(
+// Narrow on the blocks in the first entries of `bases`, `lowers` and `uppers`, in lent room.
+pub(crate) fn narrow_blocks(
     pair: Pair,
     book: &[u8],
-    mask: &[u8],
     bases: &mut [u64],
     lowers: &mut [u16],
     uppers: &mut [u16],
@@ -91,11 +90,13 @@ fn narrow_in(
     known: &mut [u64],
     out: &mut [u8],
 ) -> NarrowAnswer
-    requires { ⌜ readPair (now book) (now mask) ≡ Accepted pair ⌝ }
+    requires { ⌜ Ready (now book) (blocksOf (now bases) (now lowers) (now uppers) (pair .mask .blocks)) pair ⌝ }
     requires { ⌜ Lent (pair .mask) (now bases) (now lowers) (now uppers) (now firsts) (now sets) (now known) ⌝ }
-    ensures { λ r. ⌜ Narrows (now (book .entry)) (now (mask .entry)) (now (out .entry)) (now (out .exit)) r ⌝ }
+    ensures { λ r. ⌜ (
+        let xs = blocksOf (now (bases .entry)) (now (lowers .entry)) (now (uppers .entry)) (pair .mask .blocks) in
+        Narrows (record { book = now (book .entry); blocks = xs; failing = 0 }) (now (out .entry)) (now (out .exit)) r) ⌝ }
 {
-    let passed = pass_mask(pair, book, mask, bases, lowers, uppers, firsts, sets, known);
+    let passed = pass_blocks(pair, book, bases, lowers, uppers, firsts, sets, known);
     let accepting = pair.book.accepting;
     if bitset::intersection(passed.states, accepting) == 0 {
         return NarrowAnswer::Narrowed {
@@ -114,11 +115,32 @@ fn narrow_in(
     )
 }
 
+// Narrow on a mask that is a record, in lent room.
+fn narrow_in(
+    pair: Pair,
+    book: &[u8],
+    mask: &[u8],
+    bases: &mut [u64],
+    lowers: &mut [u16],
+    uppers: &mut [u16],
+    firsts: &mut [u64],
+    sets: &mut [u64],
+    known: &mut [u64],
+    out: &mut [u8],
+) -> NarrowAnswer
+    requires { ⌜ readPair (now book) (now mask) ≡ Accepted pair ⌝ }
+    requires { ⌜ Lent (pair .mask) (now bases) (now lowers) (now uppers) (now firsts) (now sets) (now known) ⌝ }
+    ensures { λ r. ⌜ Narrows (fromRecord (now (book .entry)) (now (mask .entry))) (now (out .entry)) (now (out .exit)) r ⌝ }
+{
+    records::read_blocks(mask, pair.mask.blocks, bases, lowers, uppers);
+    narrow_blocks(pair, book, bases, lowers, uppers, firsts, sets, known, out)
+}
+
 // Narrow in room for at most 64 blocks whose upper bounds sum to at most 64.
 pub(crate) fn narrow_small(pair: Pair, book: &[u8], mask: &[u8], out: &mut [u8]) -> NarrowAnswer
     requires { ⌜ readPair (now book) (now mask) ≡ Accepted pair ⌝ }
     requires { ⌜ (pair .mask .blocks ≤ 64) × (pair .mask .uppers ≤ 64) ⌝ }
-    ensures { λ r. ⌜ Narrows (now (book .entry)) (now (mask .entry)) (now (out .entry)) (now (out .exit)) r ⌝ }
+    ensures { λ r. ⌜ Narrows (fromRecord (now (book .entry)) (now (mask .entry))) (now (out .entry)) (now (out .exit)) r ⌝ }
 {
     let mut bases = [0u64; 128];
     let mut lowers = [0u16; 128];
@@ -143,7 +165,7 @@ pub(crate) fn narrow_small(pair: Pair, book: &[u8], mask: &[u8], out: &mut [u8])
 // Narrow in room for every mask.
 pub(crate) fn narrow_large(pair: Pair, book: &[u8], mask: &[u8], out: &mut [u8]) -> NarrowAnswer
     requires { ⌜ readPair (now book) (now mask) ≡ Accepted pair ⌝ }
-    ensures { λ r. ⌜ Narrows (now (book .entry)) (now (mask .entry)) (now (out .entry)) (now (out .exit)) r ⌝ }
+    ensures { λ r. ⌜ Narrows (fromRecord (now (book .entry)) (now (mask .entry))) (now (out .entry)) (now (out .exit)) r ⌝ }
 {
     let mut bases = [0u64; 2048];
     let mut lowers = [0u16; 2048];

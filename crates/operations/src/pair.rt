@@ -1,6 +1,9 @@
 // A book and a mask taken together: the checks that three of the operations begin with.
 ghost use mathlib.Core.Path.{_≡_};
-ghost use Rattle.operations.specs.Pair.{readPair, pairNumber};
+ghost use Rattle.records.specs.declared.BookOrRefusal.the-variants.{Accepted};
+ghost use Rattle.records.specs.Book.{readBook};
+ghost use Rattle.records.specs.Mask.{numbersOf, maskOr};
+ghost use Rattle.operations.specs.Pair.{Given, readGiven, readPair, pairNumber};
 use records::Book;
 use records::BookOrRefusal;
 use records::Mask;
@@ -22,18 +25,24 @@ pub(crate) enum PairOrRefusal {
 pub(crate) fn read_pair(book: &[u8], mask: &[u8]) -> PairOrRefusal
     ensures { λ r. ⌜ r ≡ readPair (now (book .entry)) (now (mask .entry)) ⌝ }
 {
-    let got_book = records::read_book(book);
-    let BookOrRefusal::Accepted(b) = got_book else {
-        return PairOrRefusal::Refused(records::book_number(got_book));
+    let got = records::read_book(book);
+    let BookOrRefusal::Accepted(b) = got else {
+        return PairOrRefusal::Refused(records::book_number(got));
     };
-    let got_mask = records::read_mask(mask);
-    let MaskOrRefusal::Accepted(m) = got_mask else {
-        return PairOrRefusal::Refused(records::mask_number(got_mask));
+    with_mask(b, records::read_mask(mask))
+}
+
+// A book that was read, with a mask or its refusal. Check 9.
+pub(crate) fn with_mask(book: Book, got: MaskOrRefusal) -> PairOrRefusal
+    ensures { λ r. ⌜ ((g : Given) → readBook (g .book) ≡ Accepted book → got ≡ maskOr (numbersOf (g .blocks)) (g .failing) → r ≡ readGiven g) ⌝ }
+{
+    let MaskOrRefusal::Accepted(mask) = got else {
+        return PairOrRefusal::Refused(records::mask_number(got));
     };
-    if records::some_foreign(mask, m.blocks, b.letters) {
+    if records::some_foreign(mask, book.letters) {
         return PairOrRefusal::Refused(9);
     }
-    PairOrRefusal::Accepted(Pair { book: b, mask: m })
+    PairOrRefusal::Accepted(Pair { book, mask })
 }
 
 // The refusal number of a pair's answer, 0 for none.

@@ -1,17 +1,47 @@
 // The passes on a book and a mask that are accepted. All room is lent.
 ghost use mathlib.Core.Path.{_≡_};
-ghost use Prim.Native.Nat.{_+_, _≤_};
-ghost use Rattle.model.specs.Size.{lowerSum};
 ghost use Rattle.records.specs.Book.{bookOf};
 ghost use Rattle.records.specs.Mask.{maskOf};
 ghost use Rattle.records.specs.Written.{blocksOf};
 ghost use Rattle.operations.specs.declared.pair.PairOrRefusal.the-variants.{Accepted};
-ghost use Rattle.operations.specs.Pair.{readPair};
-ghost use Rattle.operations.specs.Passes.{Lent, Found};
+ghost use Rattle.operations.specs.Pair.{readPair, Ready};
+ghost use Rattle.operations.specs.Passes.{Lent, Passes};
 use crate::pair::Pair;
 use propagator::Passed;
 
-// The passes. Where some code is legal, the first entries of `bases`, `lowers` and `uppers` are the narrowed list then.
+// The passes on the blocks in the first entries of `bases`, `lowers` and `uppers`. Where some code is legal, the first entries of
+// these are the narrowed list then.
+pub(crate) fn pass_blocks(
+    pair: Pair,
+    book: &[u8],
+    bases: &mut [u64],
+    lowers: &mut [u16],
+    uppers: &mut [u16],
+    firsts: &mut [u64],
+    sets: &mut [u64],
+    known: &mut [u64],
+) -> Passed
+    requires { ⌜ Ready (now book) (blocksOf (now bases) (now lowers) (now uppers) (pair .mask .blocks)) pair ⌝ }
+    requires { ⌜ Lent (pair .mask) (now bases) (now lowers) (now uppers) (now firsts) (now sets) (now known) ⌝ }
+    ensures { λ r. ⌜ (
+        let xs = blocksOf (now (bases .entry)) (now (lowers .entry)) (now (uppers .entry)) (pair .mask .blocks) in
+        let ys = blocksOf (now (bases .exit)) (now (lowers .exit)) (now (uppers .exit)) (r .entries) in
+        Passes (bookOf (now (book .entry))) xs (pair .mask) r ys) ⌝ }
+{
+    propagator::pass(
+        pair.book,
+        &book[15..],
+        bases,
+        lowers,
+        uppers,
+        pair.mask.blocks,
+        firsts,
+        sets,
+        known,
+    )
+}
+
+// The passes on the blocks of a mask that is a record.
 pub(crate) fn pass_mask(
     pair: Pair,
     book: &[u8],
@@ -27,21 +57,8 @@ pub(crate) fn pass_mask(
     requires { ⌜ Lent (pair .mask) (now bases) (now lowers) (now uppers) (now firsts) (now sets) (now known) ⌝ }
     ensures { λ r. ⌜ (
         let ys = blocksOf (now (bases .exit)) (now (lowers .exit)) (now (uppers .exit)) (r .entries) in
-        (r .entries ≡ lowerSum (maskOf (now (mask .entry))) + pair .mask .blocks)
-        × (r .entries ≤ pair .mask .uppers + pair .mask .blocks)
-        × Found (bookOf (now (book .entry))) (maskOf (now (mask .entry))) (r .states) ys) ⌝ }
+        Passes (bookOf (now (book .entry))) (maskOf (now (mask .entry))) (pair .mask) r ys) ⌝ }
 {
-    let blocks = pair.mask.blocks;
-    records::read_blocks(mask, blocks, bases, lowers, uppers);
-    propagator::pass(
-        pair.book,
-        &book[15..],
-        bases,
-        lowers,
-        uppers,
-        blocks,
-        firsts,
-        sets,
-        known,
-    )
+    records::read_blocks(mask, pair.mask.blocks, bases, lowers, uppers);
+    pass_blocks(pair, book, bases, lowers, uppers, firsts, sets, known)
 }

@@ -1,7 +1,7 @@
 -- What an accepted answer of a reader says of the bytes that it read.
 -- Assumes nothing.
 use Prim.Native.Nat.{ℕ, _+_, _*_, _<_}
-use mathlib.Core.Path.{_≡_, refl}
+use mathlib.Core.Path.{_≡_}
 use mathlib.Core.List.{List}
 use lib.ListN.{length}
 use Rattle.records.specs.declared.Book.{Book}
@@ -11,7 +11,7 @@ use Rattle.records.specs.declared.MaskOrRefusal.the-variants as maskAnswer
 use Rattle.records.specs.Book.{readBook}
 use Rattle.records.specs.Mask.{readMask}
 use Rattle.records.proofs.WellFormed.{book-record, mask-record}
-use Rattle.records.proofs.Answers.{book-accepted, mask-accepted}
+use Rattle.records.proofs.Answers.{book-accepted, mask-accepted, mask-holds}
 use Rattle.record_cases.specs.Holds.{Holds}
 
 -- what is known of the bytes of a book
@@ -27,6 +27,4 @@ book-lent bs b h =
 
 -- a mask holds as many blocks as its numbers say
 pub mask-lent : (bs : List ℕ) (x : Mask) → readMask bs ≡ maskAnswer.Accepted x → Holds bs (x .blocks)
-mask-lent bs x h =
-    let (none, head) = mask-accepted bs x h in
-    rw head (record { formed = mask-record bs none; blocks = refl })
+mask-lent bs x h = record { formed = mask-record bs (mask-accepted bs x h .0); blocks = mask-holds bs x h .0 }

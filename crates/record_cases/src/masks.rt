@@ -34,7 +34,7 @@ pub fn letters(bytes: &[u8]) {
     let MaskOrRefusal::Accepted(mask) = got else {
         return show::refused(records::mask_number(got));
     };
-    if records::some_foreign(mask_bytes, mask.blocks, bytes[0] as usize) {
+    if records::some_foreign(mask, bytes[0] as usize) {
         show::text(b"9");
     } else {
         show::text(b"0");

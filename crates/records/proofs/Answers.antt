@@ -10,7 +10,8 @@ use Rattle.records.specs.declared.BookOrRefusal.the-variants as bookAnsw
 use Rattle.records.specs.declared.Mask.{Mask}
 use Rattle.records.specs.declared.MaskOrRefusal.the-variants as maskAnswer
 use Rattle.records.specs.Book.{bookHead, bookOr, bookRefusal, readBook}
-use Rattle.records.specs.Mask.{count, maskHead, maskOr, maskRefusal, readMask}
+use Rattle.records.specs.Mask.{count, maskOf, numbersOf, maskOr, maskRefusal, readMask}
+use Rattle.records.proofs.Offsets.{blocks-counted}
 use Rattle.records.proofs.WellFormed.{mask-record}
 
 -- a book: no check refused it, and these are its numbers
@@ -31,27 +32,29 @@ book-refused bs n = go (bookRefusal bs)
     go zero e = absurd (let z : _≡_ {A = ℕ} 0 1 = cc in omega arith)
     go (suc r) e = let same : suc r ≡ n = cc in (same, omega arith)
 
+-- a mask or its refusal: a mask, as nothing is refused
+pub or-accepted : (x y : Mask) (r : ℕ) → maskOr x r ≡ maskAnswer.Accepted y → (r ≡ 0) × (y ≡ x)
+or-accepted x y zero e = (refl, cc)
+or-accepted x y (suc r) e = absurd (let z : _≡_ {A = ℕ} 0 1 = cc in omega arith)
+
+-- a refusal, which is not 0
+pub or-refused : (x : Mask) (n r : ℕ) → maskOr x r ≡ maskAnswer.Refused n → (r ≡ n) × (0 < n)
+or-refused x n zero e = absurd (let z : _≡_ {A = ℕ} 0 1 = cc in omega arith)
+or-refused x n (suc r) e = let same : suc r ≡ n = cc in (same, omega arith)
+
 -- a mask: no check refused it, and these are its numbers
-pub mask-accepted : (bs : List ℕ) (x : Mask) → readMask bs ≡ maskAnswer.Accepted x → (maskRefusal bs ≡ 0) × (x ≡ maskHead bs)
+pub mask-accepted : (bs : List ℕ) (x : Mask) → readMask bs ≡ maskAnswer.Accepted x → (maskRefusal bs ≡ 0) × (x ≡ numbersOf (maskOf bs))
 unfolding readMask
-mask-accepted bs x = go (maskRefusal bs)
-  where
-    go : (r : ℕ) → maskOr (maskHead bs) r ≡ maskAnswer.Accepted x → (r ≡ 0) × (x ≡ maskHead bs)
-    go zero e = (refl, cc)
-    go (suc r) e = absurd (let z : _≡_ {A = ℕ} 0 1 = cc in omega arith)
+mask-accepted bs x = or-accepted (numbersOf (maskOf bs)) x (maskRefusal bs)
 
 -- a refusal: the number is that of the checks, and not 0
 pub mask-refused : (bs : List ℕ) (n : ℕ) → readMask bs ≡ maskAnswer.Refused n → (maskRefusal bs ≡ n) × (0 < n)
 unfolding readMask
-mask-refused bs n = go (maskRefusal bs)
-  where
-    go : (r : ℕ) → maskOr (maskHead bs) r ≡ maskAnswer.Refused n → (r ≡ n) × (0 < n)
-    go zero e = absurd (let z : _≡_ {A = ℕ} 0 1 = cc in omega arith)
-    go (suc r) e = let same : suc r ≡ n = cc in (same, omega arith)
+mask-refused bs n = or-refused (numbersOf (maskOf bs)) n (maskRefusal bs)
 
 -- and it holds the bytes of as many blocks as it says
 pub mask-holds : (bs : List ℕ) (x : Mask) → readMask bs ≡ maskAnswer.Accepted x → (x .blocks ≡ count bs) × (6 + 12 * x .blocks ≤ length bs)
 mask-holds bs x h =
     let (none, head) = mask-accepted bs x h in
     let r = mask-record bs none in
-    rw head (refl, omega (arith, r .size))
+    rw (head, blocks-counted bs) (refl, omega (arith, r .size))

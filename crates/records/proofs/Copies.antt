@@ -1,22 +1,38 @@
 -- Blocks copied into three slices.
 -- Assumes nothing.
-use mathlib.Core.Path.{_≡_, refl, ap₂, _∙_}
+use mathlib.Core.Path.{_≡_, refl, ap, ap₂, _∙_}
 use mathlib.Core.List.{List, [], _∷_}
-use Prim.Native.Nat.{ℕ, suc, _+_, _≤_, _<_}
+use Prim.Native.Nat.{ℕ, zero, suc, _+_, _-_, _≤_, _<_}
 use native.Mathlib.Omega.{arith}
 use borrow.Author.Count.{below-more}
-use lib.ListN.{length, set, length-set}
-use lib.Seq.{getD-set-same, getD-set-other}
+use lib.ListN.{length, take, set, length-set}
+use lib.Seq.{drop-cons, getD-set-same, getD-set-other}
 use Rattle.model.specs.declared.Block.{Block}
 use Rattle.model.specs.DashedString.{blockAt, values}
 use Rattle.records.specs.Mask.{count, maskOf}
-use Rattle.records.specs.Written.{numbered, Enough}
+use Rattle.records.specs.Written.{numbered, blocksBetween, Enough}
 use Rattle.records.proofs.Offsets.{blocks-counted}
 
--- values that are the blocks of a mask, each at its number, are the mask
-values-are : (xs : List Block) (f : ℕ → Block) → ((j : ℕ) → j < length xs → f j ≡ blockAt xs j) → values f (length xs) ≡ xs
-values-are [] f h = refl
-values-are (x ∷ xs) f h = ap₂ _∷_ (h 0 (omega arith)) (values-are xs (λ j. f (suc j)) (λ j l. h (suc j) (omega arith)))
+-- k values that are the first blocks of a list, each at its number, are the list's front
+values-are : (k : ℕ) (xs : List Block) (f : ℕ → Block) → k ≤ length xs → ((j : ℕ) → j < k → f j ≡ blockAt xs j) → values f k ≡ take k xs
+values-are zero xs f l h = refl
+values-are (suc k) [] f l h = absurd (omega arith)
+values-are (suc k) (x ∷ xs) f l h =
+    ap₂ _∷_ (h 0 (omega arith)) (values-are k xs (λ j. f (suc j)) (omega arith) (λ j m. h (suc j) (omega arith)))
+
+-- the front of a list that is no longer is the list
+pub take-all : (k : ℕ) (xs : List Block) → length xs ≤ k → take k xs ≡ xs
+take-all zero [] h = refl
+take-all zero (x ∷ xs) h = absurd (omega arith)
+take-all (suc k) [] h = refl
+take-all (suc k) (x ∷ xs) h = ap (_∷_ x) (take-all k xs (omega arith))
+
+-- the blocks from entry i on: that entry, and the others
+pub between-cons : (b l u : List ℕ) (i end : ℕ) → i < end → Enough b l u end
+    → blocksBetween b l u i end ≡ numbered b l u i ∷ blocksBetween b l u (suc i) end
+between-cons b l u i end h e =
+    let more : end - i ≡ suc (end - suc i) = omega arith in
+    rw (more, drop-cons b i 0 (omega arith), drop-cons l i 0 (omega arith), drop-cons u i 0 (omega arith))
 
 -- a block stored as entry i of three slices
 module _ (b l u : List ℕ) (i : ℕ) (x : Block) where
@@ -56,9 +72,13 @@ module _ (xs : List Block) (k : ℕ) (b₀ l₀ u₀ b l u : List ℕ) (i : ℕ)
             (stored-here b l u i x (omega arith) ∙ e);
       }
 
--- all are copied
-pub copying-ends : (bs : List ℕ) (k : ℕ) (b₀ l₀ u₀ b l u : List ℕ) (i : ℕ) → Copying (maskOf bs) k b₀ l₀ u₀ b l u i → k ≡ count bs → k ≤ i
+  -- k blocks are copied
+  pub copying-ends : k ≤ length xs → k ≤ i → values (numbered b l u) k ≡ take k xs
+  copying-ends long h = values-are k xs (numbered b l u) long (λ j m. copying .same j (omega arith))
+
+-- all of a mask's are
+pub copied-mask : (bs : List ℕ) (k : ℕ) (b₀ l₀ u₀ b l u : List ℕ) (i : ℕ) → Copying (maskOf bs) k b₀ l₀ u₀ b l u i → k ≡ count bs → k ≤ i
     → values (numbered b l u) k ≡ maskOf bs
-copying-ends bs k b₀ l₀ u₀ b l u i copying e h =
+copied-mask bs k b₀ l₀ u₀ b l u i copying e h =
     let all : length (maskOf bs) ≡ k = rw e (blocks-counted bs) in
-    rw all at (values-are (maskOf bs) (numbered b l u) (λ j m. copying .same j (omega arith)))
+    copying-ends (maskOf bs) k b₀ l₀ u₀ b l u i copying (omega arith) h ∙ take-all k (maskOf bs) (omega arith)

@@ -11,6 +11,7 @@ pub mod Stores
 pub mod Copies
 pub mod Steps
 pub mod Walk
+pub mod Taking
 pub mod Next
 pub mod BookChecks
 pub mod MaskChecks

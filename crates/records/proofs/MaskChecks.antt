@@ -7,11 +7,14 @@ use Prim.Native.Nat.{ℕ, suc, _+_, _*_, _≤_, _<_}
 use borrow.Author.Tests.{lt-ltb, le-ltb}
 use lib.Dec.{ltb}
 use lib.ListN.{length}
-use Rattle.model.specs.Size.{uppers}
-use Rattle.records.specs.declared.MaskOrRefusal.the-variants.{Accepted, Refused}
-use Rattle.records.specs.Check.{refuse, some, kind, unframed}
-use Rattle.records.specs.Mask.{count, blocksFrom, maskOf, crossed, maskRefusal, readMask}
+use Rattle.records.specs.declared.totals.Totals.{Totals}
+use Rattle.records.specs.declared.MaskOrRefusal.the-variants.{Refused}
+use Rattle.records.specs.Check.{kind, unframed}
+use Rattle.records.specs.Mask.{count, blocksFrom, maskOf, blocksRefusal, maskRefusal, maskOr, readMask, readBlocks}
+use Rattle.records.specs.Totals.{totals, totalsRefusal}
 use Rattle.records.proofs.Checks.{on, off, is, is-not, first, second, third, past-three}
+use Rattle.records.proofs.Offsets.{blocks-counted}
+use Rattle.records.proofs.Taking.{by-totals}
 
 -- a number that the checks give is the answer
 refused : (bs : List ℕ) (r : ℕ) → maskRefusal bs ≡ suc r → Refused (suc r) ≡ readMask bs
@@ -47,20 +50,11 @@ module _ (bs : List ℕ) (k : ℕ) (counted : k ≡ count bs) (framed : unframed
     refused-5 h = refused bs 4 (past-three bs 2 6 _ framed right long ∙ off _ _ _ e4 ∙ on _ _ _ (is-not _ _ (rw counted at h)))
 
     module _ (exact : length bs ≡ 6 + 12 * k) where
-      to-seven : maskRefusal bs ≡ refuse (some crossed (blocksFrom k bs 6)) 7 (refuse (ltb 1024 (uppers (blocksFrom k bs 6))) 8 0)
-      unfolding maskOf maskRefusal
-      to-seven = rw counted (past-three bs 2 6 _ framed right long ∙ off _ _ _ e4 ∙ off _ _ _ (is _ _ (rw counted at exact)))
-
-      pub refused-7 : some crossed (blocksFrom k bs 6) ≡ true → Refused 7 ≡ readMask bs
-      refused-7 h = refused bs 6 (to-seven ∙ on _ _ _ h)
-
-      module _ (bounded : some crossed (blocksFrom k bs 6) ≡ false) (u : ℕ) (sum : u ≡ uppers (blocksFrom k bs 6)) where
-        to-eight : maskRefusal bs ≡ refuse (ltb 1024 u) 8 0
-        to-eight = rw sum (to-seven ∙ off _ _ _ bounded)
-
-        pub refused-8 : 1024 < u → Refused 8 ≡ readMask bs
-        refused-8 h = refused bs 7 (to-eight ∙ on _ _ _ (lt-ltb 1024 u h))
-
-        pub accepted : u ≤ 1024 → Accepted (record { blocks = k; uppers = u }) ≡ readMask bs
-        unfolding maskOf readMask
-        accepted h = rw (to-eight ∙ off _ _ _ (le-ltb 1024 u h), sum, counted)
+      -- then checks 7 and 8 decide
+      pub judged : (t : Totals) → t ≡ totals (blocksFrom k bs 6)
+          → maskOr (record { blocks = k; uppers = t .uppers; used = t .used }) (totalsRefusal t) ≡ readMask bs
+      unfolding maskOf maskRefusal readMask readBlocks
+      judged t e =
+          let passed : maskRefusal bs ≡ blocksRefusal (maskOf bs)
+          = past-three bs 2 6 _ framed right long ∙ off _ _ _ e4 ∙ off _ _ _ (is _ _ (rw counted at exact)) in
+          by-totals (maskOf bs) k t (rw blocks-counted counted) (rw counted at e) ∙ rw passed

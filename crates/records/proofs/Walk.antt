@@ -1,4 +1,4 @@
--- What the loops over the blocks of a record, and over its moves, keep from turn to turn.
+-- What the loop over the moves of a book keeps from turn to turn.
 -- Assumes nothing.
 use mathlib.Core.Path.{_≡_, refl, sym, _∙_}
 use mathlib.Core.Bool.{Bool, true, false, not, _&&_, _||_, and-false, or-true, or-false}
@@ -16,68 +16,6 @@ use Rattle.model.specs.Size.{uppers}
 use Rattle.records.specs.Check.{some}
 use Rattle.records.specs.Book.{stray}
 use Rattle.records.specs.Mask.{count, blockFrom, blocksFrom, maskOf, beyond, foreign}
-
--- the first block of some, and the rest
-first-block : (bs : List ℕ) (at left : ℕ) → 0 < left → blocksFrom left bs at ≡ blockFrom bs at ∷ blocksFrom (left - 1) bs (at + 12)
-unfolding blocksFrom
-first-block bs at zero h = absurd (omega arith)
-first-block bs at (suc left) h = let e : suc left - 1 ≡ left = omega arith in rw e
-
--- no block of none
-no-block : (bs : List ℕ) (at left : ℕ) → left ≤ 0 → blocksFrom left bs at ≡ []
-unfolding blocksFrom
-no-block bs at zero h = refl
-no-block bs at (suc left) h = absurd (omega arith)
-
--- a search: whether some block passes the test is whether one of those left does
-pub record Seeking (p : Block → Bool) (bs : List ℕ) (blocks at left : ℕ) : Type 0 where
-  pub here : at + 12 * left ≡ 6 + 12 * blocks
-  pub same : some p (blocksFrom left bs at) ≡ some p (blocksFrom blocks bs 6)
-
--- no block is looked at yet
-pub seeking-starts : (p : Block → Bool) (bs : List ℕ) (blocks : ℕ) → Seeking p bs blocks 6 blocks
-seeking-starts p bs blocks = record { here = refl; same = refl }
-
-module _ (p : Block → Bool) (bs : List ℕ) (blocks at left : ℕ) (seeking : Seeking p bs blocks at left) where
-  -- the next block passes
-  pub seeking-found : (x : Block) → 0 < left → x ≡ blockFrom bs at → p x ≡ true → true ≡ some p (blocksFrom blocks bs 6)
-  unfolding some
-  seeking-found x h e t = rw (first-block bs at left h, ← e, t) at (seeking .same)
-
-  -- it does not
-  pub seeking-more : (x : Block) → 0 < left → x ≡ blockFrom bs at → p x ≡ false → Seeking p bs blocks (at + 12) (left - 1)
-  unfolding some
-  seeking-more x h e t = record { here = omega arith; same = rw (first-block bs at left h, ← e, t) at (seeking .same) }
-
-  -- none is left
-  pub seeking-ends : left ≤ 0 → false ≡ some p (blocksFrom blocks bs 6)
-  unfolding some
-  seeking-ends h = rw (no-block bs at left h) at (seeking .same)
-
--- of all the blocks of a mask: check 9
-pub foreign-all : (m : ℕ) (bs : List ℕ) (k : ℕ) → k ≡ count bs → some (beyond m) (blocksFrom k bs 6) ≡ foreign m (maskOf bs)
-unfolding maskOf foreign
-foreign-all m bs k e = rw e
-
--- a sum: what was added and the upper bounds that are left make the whole
-pub record Summing (bs : List ℕ) (blocks at left sum : ℕ) : Type 0 where
-  pub here : at + 12 * left ≡ 6 + 12 * blocks
-  pub whole : sum + uppers (blocksFrom left bs at) ≡ uppers (blocksFrom blocks bs 6)
-  pub small : sum + 65536 * left ≤ 65536 * blocks
-
--- nothing is added yet
-pub summing-starts : (bs : List ℕ) (blocks : ℕ) → Summing bs blocks 6 blocks 0
-summing-starts bs blocks = record { here = refl; whole = omega arith; small = omega arith }
-
-module _ (bs : List ℕ) (blocks at left sum : ℕ) (summing : Summing bs blocks at left sum) where
-  -- one block more
-  pub summing-more : (x : Block) → 0 < left → x ≡ blockFrom bs at → x .upper < 65536 → Summing bs blocks (at + 12) (left - 1) (sum + x .upper)
-  summing-more x h e l =
-      record { here = omega arith; whole = rw add-assoc (rw (first-block bs at left h, ← e) at (summing .whole)); small = omega arith }
-
-  -- none is left
-  pub summing-ends : left ≤ 0 → sum ≡ uppers (blocksFrom blocks bs 6)
-  summing-ends h = rw (no-block bs at left h, add-zero) at (summing .whole)
 
 -- a search through a whole list: an element passes the test where one was found, or where one from i on does
 pub record Passing (p : ℕ → Bool) (l : List ℕ) (i : ℕ) (found : Bool) : Type 0 where

@@ -8,10 +8,10 @@ use mathlib.Core.List.{List, [], _∷_}
 use native.Mathlib.Omega.{arith}
 use borrow.Author.Tests.{le-ltb, lt-leb, eq-eqb, ne-eqb, ltb-false, leb-false, eqb-true, not-false}
 use lib.Dec.{leb, eqb}
-use lib.ListN.{length, length-drop}
+use lib.ListN.{length, getD, length-drop}
 use Rattle.model.specs.declared.Block.{Block}
 use Rattle.model.specs.Set.{Member, someFrom}
-use Rattle.model.specs.DashedString.{Each, Bounded}
+use Rattle.model.specs.DashedString.{values, Each, Bounded}
 use Rattle.model.specs.Automaton.{Dfa}
 use Rattle.model.specs.Legal.{Checked}
 use Rattle.model.specs.Size.{uppers, WellFormed, Fits}
@@ -19,7 +19,8 @@ use Rattle.records.specs.declared.Book.{Book}
 use Rattle.records.specs.Bytes.{Bytes}
 use Rattle.records.specs.Check.{some, lengthField, kind, unframed}
 use Rattle.records.specs.Book.{bookHead, movesOf, bookOf, stray, unnamed, bookChecks, bookRefusal}
-use Rattle.records.specs.Mask.{count, blockFrom, blocksFrom, maskOf, crossed, maskRefusal, beyond, foreign}
+use Rattle.records.specs.Mask.{count, blockFrom, blocksFrom, maskOf, crossed, blocksRefusal, maskRefusal, beyond, foreign}
+use Rattle.records.specs.Written.{numbered, blocksOf}
 use Rattle.records.specs.WellFormed.{Sound, BookRecord, MaskRecord}
 use Rattle.records.proofs.Numbers.{number-lt}
 use Rattle.records.proofs.Offsets.{blocks-counted}
@@ -115,6 +116,19 @@ dead-accepts-nothing b s m = omega (arith, s .accepting (b .table .states) m)
 uncrossed : (xs : List Block) → (some crossed xs ≡ false) ↔ Each Bounded xs
 uncrossed xs = none-each crossed Bounded (λ x. (ltb-false (x .upper) (x .lower), le-ltb (x .upper) (x .lower))) xs
 
+-- checks 7 and 8 leave blocks with l ≤ u, and uppers that sum to at most 1,024
+pub blocks-bounds : (xs : List Block) → blocksRefusal xs ≡ 0 → Each Bounded xs × (uppers xs ≤ 1024)
+unfolding blocksRefusal
+blocks-bounds xs h =
+    let (bounds, h) = peel _ _ _ h in
+    let (sum, _) = peel _ _ _ h in
+    (uncrossed xs .0 bounds, ltb-false 1024 (uppers xs) sum)
+
+-- and refuse no such blocks
+bounds-blocks : (xs : List Block) → Each Bounded xs → uppers xs ≤ 1024 → blocksRefusal xs ≡ 0
+unfolding blocksRefusal
+bounds-blocks xs bounds sum = off _ _ _ (uncrossed xs .1 bounds) ∙ off _ _ _ (le-ltb 1024 (uppers xs) sum)
+
 -- what is not refused as a mask is a well-formed record
 pub mask-record : (bs : List ℕ) → maskRefusal bs ≡ 0 → MaskRecord bs
 unfolding maskRefusal
@@ -124,15 +138,14 @@ mask-record bs h =
     let (_, h) = peel _ _ _ h in
     let (few, h) = peel _ _ _ h in
     let (size, h) = peel _ _ _ h in
-    let (bounds, h) = peel _ _ _ h in
-    let (sum, _) = peel _ _ _ h in
+    let (bounds, sum) = blocks-bounds (maskOf bs) h in
     record {
       framed = framing bs .0 frame .1;
       kind = eqb-true (kind bs) 2 (not-false _ two);
       few = ltb-false 1024 (count bs) few;
       size = eqb-true (length bs) (6 + 12 * count bs) (not-false _ size);
-      bounds = uncrossed (maskOf bs) .0 bounds;
-      sum = ltb-false 1024 (uppers (maskOf bs)) sum;
+      bounds = bounds;
+      sum = sum;
     }
 
 -- and no well-formed record is refused
@@ -142,20 +155,35 @@ record-mask bs t =
     past-three bs 2 6 _ (framing bs .1 (omega arith, t .framed)) (t .kind) (omega arith)
     ∙ off _ _ _ (le-ltb 1024 (count bs) (t .few))
     ∙ off _ _ _ (is _ _ (t .size))
-    ∙ off _ _ _ (uncrossed (maskOf bs) .1 (t .bounds))
-    ∙ off _ _ _ (le-ltb 1024 (uppers (maskOf bs)) (t .sum))
+    ∙ bounds-blocks (maskOf bs) (t .bounds) (t .sum)
 
--- the hypotheses of demand 3, for a book and a mask that are not refused
-pub checked : (bs ms : List ℕ) → bookRefusal bs ≡ 0 → maskRefusal ms ≡ 0 → Checked (bookOf bs) (maskOf ms)
-checked bs ms h l =
+-- so its blocks pass checks 7 and 8
+pub mask-blocks : (bs : List ℕ) → maskRefusal bs ≡ 0 → blocksRefusal (maskOf bs) ≡ 0
+mask-blocks bs h = let t = mask-record bs h in bounds-blocks (maskOf bs) (t .bounds) (t .sum)
+
+-- the hypotheses of demand 3, for a book that is not refused and blocks with l ≤ u
+pub checked : (bs : List ℕ) (xs : List Block) → bookRefusal bs ≡ 0 → Each Bounded xs → Checked (bookOf bs) xs
+checked bs xs h bounds =
     let s = book-record bs h .sound in
-    record { states = s .states; start = s .start; bounds = mask-record ms l .bounds }
+    record { states = s .states; start = s .start; bounds = bounds }
 
 -- the set of a block is 8 bytes
-each-bytes : (bs : List ℕ) → Bytes bs → (k i : ℕ) → Each (λ x. x .base < 2 ^ 64) (blocksFrom k bs i)
+abbrev pub Wide : Block → Type 0
+Wide x = x .base < 2 ^ 64
+
+-- as it is in a record
+each-bytes : (bs : List ℕ) → Bytes bs → (k i : ℕ) → Each Wide (blocksFrom k bs i)
 unfolding blockFrom blocksFrom
 each-bytes bs h zero i = tt
 each-bytes bs h (suc k) i = (number-lt 8 bs i h, each-bytes bs h k (i + 12))
+
+-- and in three slices
+pub slices-wide : (b l u : List ℕ) → ((i : ℕ) → getD b i 0 < 2 ^ 64) → (k : ℕ) → Each Wide (blocksOf b l u k)
+slices-wide b l u h k = go (numbered b l u) h k
+  where
+    go : (f : ℕ → Block) → ((i : ℕ) → Wide (f i)) → (k : ℕ) → Each Wide (values f k)
+    go f h zero = tt
+    go f h (suc k) = (h 0, go (λ i. f (suc i)) (λ i. h (suc i)) k)
 
 -- every letter of the block is below m
 abbrev pub Native : ℕ → Block → Type 0
@@ -167,19 +195,22 @@ unfolding foreign
 none-foreign m xs = none-each (beyond m) (Native m) (λ x. none-from (x .base) m) xs
 
 -- blocks with l ≤ u, a set of 8 bytes and letters below m are well-formed
-formed : (m : ℕ) (xs : List Block) → Each Bounded xs → Each (λ x. x .base < 2 ^ 64) xs → Each (Native m) xs → Each (WellFormed m) xs
+formed : (m : ℕ) (xs : List Block) → Each Bounded xs → Each Wide xs → Each (Native m) xs → Each (WellFormed m) xs
 formed m [] bounds bytes letters = tt
 formed m (x ∷ xs) (h, bounds) (k, bytes) (l, letters) = (record { bounds = h; bytes = k; letters = l }, formed m xs bounds bytes letters)
+
+-- at most 1,024 blocks of 8-byte sets that are not refused, with letters below m, fit a record
+pub blocks-fit : (m : ℕ) (xs : List Block) → Each Wide xs → length xs ≤ 1024 → blocksRefusal xs ≡ 0 → foreign m xs ≡ false → Fits m xs
+blocks-fit m xs wide few r f =
+    let (bounds, sum) = blocks-bounds xs r in
+    record { few = few; room = record { each = formed m xs bounds wide (none-foreign m xs .0 f); sum = sum } }
 
 -- a mask that is not refused, with letters below m, fits a record
 pub record-fits : (m : ℕ) (ms : List ℕ) → Bytes ms → maskRefusal ms ≡ 0 → foreign m (maskOf ms) ≡ false → Fits m (maskOf ms)
 unfolding maskOf
 record-fits m ms h r f =
     let t = mask-record ms r in
-    record {
-      few = omega (arith, blocks-counted ms);
-      room = record { each = formed m (maskOf ms) (t .bounds) (each-bytes ms h (count ms) 6) (none-foreign m (maskOf ms) .0 f); sum = t .sum };
-    }
+    blocks-fit m (maskOf ms) (each-bytes ms h (count ms) 6) (omega (arith, blocks-counted ms)) (mask-blocks ms r) f
 
 -- every letter is below 64, so every mask that is not refused fits one
 pub record-fits-64 : (ms : List ℕ) → Bytes ms → maskRefusal ms ≡ 0 → Fits 64 (maskOf ms)

@@ -5,7 +5,7 @@ use mathlib.Core.List.{List, [], _∷_}
 use lib.Dec.{ltb, eqb}
 use lib.ListN.{length}
 use Rattle.model.specs.declared.Block.{Block}
-use Rattle.model.specs.Set.{someFrom}
+use Rattle.model.specs.Set.{either, someFrom}
 use Rattle.model.specs.DashedString.{block}
 use Rattle.model.specs.Size.{uppers}
 use Rattle.records.specs.declared.Mask.{Mask}
@@ -31,13 +31,16 @@ blocksFrom (suc k) bs i = blockFrom bs i ∷ blocksFrom k bs (i + 12)
 unfoldable pub maskOf : List ℕ → List Block
 maskOf bs = blocksFrom (count bs) bs 6
 
--- the numbers of a kind 2 record: how many blocks, and the sum of their upper bounds
-abbrev pub maskHead : List ℕ → Mask
-maskHead bs = record { blocks = count bs; uppers = uppers (maskOf bs) }
-
 -- l is above u
 abbrev pub crossed : Block → Bool
 crossed x = ltb (x .upper) (x .lower)
+
+-- the checks of blocks: 7 and 8
+unfoldable pub blocksRefusal : List Block → ℕ
+blocksRefusal xs =
+    refuse (some crossed xs) 7
+    (refuse (ltb 1024 (uppers xs)) 8
+    0)
 
 -- the mask checks: 1 to 5, 7 and 8
 unfoldable pub maskRefusal : List ℕ → ℕ
@@ -47,9 +50,16 @@ maskRefusal bs =
     (refuse (ltb (length bs) 6) 3
     (refuse (ltb 1024 (count bs)) 4
     (refuse (not (eqb (length bs) (6 + 12 * count bs))) 5
-    (refuse (some crossed (maskOf bs)) 7
-    (refuse (ltb 1024 (uppers (maskOf bs))) 8
-    0))))))
+    (blocksRefusal (maskOf bs))))))
+
+-- a set, and the letters that some block's set has
+unfoldable pub withLetters : ℕ → List Block → ℕ
+withLetters s [] = s
+withLetters s (x ∷ xs) = withLetters (either s (x .base)) xs
+
+-- the numbers of a mask: how many blocks, the sum of their upper bounds, and the letters that some set has
+abbrev pub numbersOf : List Block → Mask
+numbersOf xs = record { blocks = length xs; uppers = uppers xs; used = withLetters 0 xs }
 
 -- a mask, or its refusal
 abbrev pub maskOr : Mask → ℕ → MaskOrRefusal
@@ -58,7 +68,11 @@ maskOr x (suc r) = Refused (suc r)
 
 -- a slice of bytes as a mask, or its refusal
 unfoldable pub readMask : List ℕ → MaskOrRefusal
-readMask bs = maskOr (maskHead bs) (maskRefusal bs)
+readMask bs = maskOr (numbersOf (maskOf bs)) (maskRefusal bs)
+
+-- blocks as a mask, or their refusal
+unfoldable pub readBlocks : List Block → MaskOrRefusal
+readBlocks xs = maskOr (numbersOf xs) (blocksRefusal xs)
 
 -- the refusal number of an answer, 0 for a mask
 abbrev pub maskNumber : MaskOrRefusal → ℕ

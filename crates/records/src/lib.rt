@@ -3,24 +3,26 @@
 ghost use mathlib.Core.Path.{_≡_};
 ghost use Prim.Native.Nat.{_+_, _*_, _≤_, _<_};
 ghost use lib.ListN.{length};
+ghost use Rattle.model.specs.Set.{someFrom};
 ghost use Rattle.model.specs.DashedString.{blockAt};
 ghost use Rattle.model.specs.Automaton.{next};
 ghost use Rattle.records.specs.Bytes.{over};
 ghost use Rattle.records.specs.Book.{tableOf, readBook, bookNumber};
-ghost use Rattle.records.specs.Mask.{count, maskOf, readMask, maskNumber, foreign};
+ghost use Rattle.records.specs.Mask.{count, maskOf, maskOr, readMask, readBlocks, maskNumber};
+ghost use Rattle.records.specs.Totals.{totalsRefusal};
 ghost use Rattle.records.specs.Written.{maskBytes, blocksOf, Enough};
 
 mod automaton;
 mod blocks;
-mod crossed;
 mod frame;
 mod moves;
 mod number;
-mod uppers;
+mod totals;
 mod writer;
 
 pub use frame::length_field;
 use model::Block;
+use totals::Totals;
 
 // The numbers of a kind 1 record (a book): n, m, the start and the accepting states. Its moves stay in the slice.
 pub struct Book {
@@ -36,11 +38,12 @@ pub enum BookOrRefusal {
     Refused(u32),
 }
 
-// The numbers of a kind 2 record (a mask): how many blocks, and the sum of their upper bounds. Its blocks stay in the
-// slice.
+// The numbers of a mask: how many blocks, the sum of their upper bounds, and the letters that some set has. Its blocks stay
+// where they are.
 pub struct Mask {
     pub blocks: usize,
     pub uppers: usize,
+    pub used: u64,
 }
 
 // What a slice is as a mask.
@@ -95,14 +98,33 @@ pub fn read_mask(bytes: &[u8]) -> MaskOrRefusal
     if bytes.len() != 6 + 12 * blocks {
         return MaskOrRefusal::Refused(5);
     }
-    if crossed::some_crossed(bytes, blocks) {
+    mask_of(blocks, totals::of_record(bytes, blocks))
+}
+
+// The first `count` blocks, whose sets and bounds the three slices hold, as a mask, or the number of the first check that
+// fails: 7 and 8.
+pub fn check_blocks(bases: &[u64], lowers: &[u16], uppers: &[u16], count: usize) -> MaskOrRefusal
+    requires { ⌜ (count ≤ 1024) × Enough (now bases) (now lowers) (now uppers) count ⌝ }
+    ensures { λ r. ⌜ r ≡ readBlocks (blocksOf (now (bases .entry)) (now (lowers .entry)) (now (uppers .entry)) count) ⌝ }
+{
+    mask_of(count, totals::of_slices(bases, lowers, uppers, count))
+}
+
+// A mask by its number of blocks and its totals. Checks 7 and 8.
+fn mask_of(blocks: usize, totals: Totals) -> MaskOrRefusal
+    ensures { λ r. ⌜ r ≡ maskOr (record { blocks = blocks; uppers = totals .uppers; used = totals .used }) (totalsRefusal totals) ⌝ }
+{
+    if totals.crossed {
         return MaskOrRefusal::Refused(7);
     }
-    let uppers = uppers::sum_uppers(bytes, blocks);
-    if 1024 < uppers {
+    if 1024 < totals.uppers {
         return MaskOrRefusal::Refused(8);
     }
-    MaskOrRefusal::Accepted(Mask { blocks, uppers })
+    MaskOrRefusal::Accepted(Mask {
+        blocks,
+        uppers: totals.uppers,
+        used: totals.used,
+    })
 }
 
 // The refusal number of a book's answer, 0 for none.
@@ -170,21 +192,10 @@ pub fn read_blocks(
 }
 
 // Check 9: whether some set of a mask has a letter that is `letters` or above.
-pub fn some_foreign(bytes: &[u8], blocks: usize, letters: usize) -> bool
-    requires { ⌜ (blocks ≡ count (now bytes)) × (6 + 12 * blocks ≤ length (now bytes)) ⌝ }
-    ensures { λ r. ⌜ r ≡ foreign letters (maskOf (now (bytes .entry))) ⌝ }
+pub fn some_foreign(mask: Mask, letters: usize) -> bool
+    ensures { λ r. ⌜ r ≡ someFrom (mask .used) letters ⌝ }
 {
-    let mut at = 6;
-    let mut left = blocks;
-    while 0 < left {
-        let block = blocks::block_from(bytes, at);
-        if bitset::some_from(block.base, letters) {
-            return true;
-        }
-        at += 12;
-        left -= 1;
-    }
-    false
+    bitset::some_from(mask.used, letters)
 }
 
 // Writes the first `count` blocks, whose sets and bounds the three slices hold, as a kind 2 record over the first bytes of

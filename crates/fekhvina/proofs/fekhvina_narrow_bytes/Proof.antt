@@ -16,8 +16,8 @@ same-length c = search needs
 
 returns : tie.Need-returns
 returns c =
-    let promised : Narrows _ _ _ _ _ = c .before .before .before .narrow .ensures in
-    number-of (λ a. narrowNumbers a .bytes) (Narrows _ _ _ _) _ _ _ (promised .answer) promised (c .narrow-bytes .ensures)
+    let promised : Narrows _ _ _ _ = c .before .before .before .narrow .ensures in
+    number-of (λ a. narrowNumbers a .bytes) (Narrows _ _ _) _ _ _ (promised .answer) promised (c .narrow-bytes .ensures)
 
 pub fekhvina-narrow-bytes-spec : {M : Type 1} → statement M
 fekhvina-narrow-bytes-spec =

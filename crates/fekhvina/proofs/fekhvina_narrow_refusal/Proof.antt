@@ -16,8 +16,8 @@ same-length c = search needs
 
 returns : tie.Need-returns
 returns c =
-    let promised : Narrows _ _ _ _ _ = c .before .before .before .narrow .ensures in
-    number-of (λ a. narrowNumbers a .refusal) (Narrows _ _ _ _) _ _ _ (promised .answer) promised (c .narrow-refusal .ensures)
+    let promised : Narrows _ _ _ _ = c .before .before .before .narrow .ensures in
+    number-of (λ a. narrowNumbers a .refusal) (Narrows _ _ _) _ _ _ (promised .answer) promised (c .narrow-refusal .ensures)
 
 pub fekhvina-narrow-refusal-spec : {M : Type 1} → statement M
 fekhvina-narrow-refusal-spec =

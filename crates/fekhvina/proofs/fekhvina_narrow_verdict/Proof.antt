@@ -16,8 +16,8 @@ same-length c = search needs
 
 returns : tie.Need-returns
 returns c =
-    let promised : Narrows _ _ _ _ _ = c .before .before .before .narrow .ensures in
-    number-of (λ a. narrowNumbers a .verdict) (Narrows _ _ _ _) _ _ _ (promised .answer) promised (c .narrow-verdict .ensures)
+    let promised : Narrows _ _ _ _ = c .before .before .before .narrow .ensures in
+    number-of (λ a. narrowNumbers a .verdict) (Narrows _ _ _) _ _ _ (promised .answer) promised (c .narrow-verdict .ensures)
 
 pub fekhvina-narrow-verdict-spec : {M : Type 1} → statement M
 fekhvina-narrow-verdict-spec =

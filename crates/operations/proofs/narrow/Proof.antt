@@ -3,7 +3,7 @@ use mathlib.Core.Path.{_≡_, _∙_, sym}
 use native.Mathlib.Omega.{arith}
 use borrow.Author.Tests.{leb-true}
 use Rattle.operations.specs.declared.pair.PairOrRefusal.the-variants.{Accepted}
-use Rattle.operations.specs.Pair.{readPair}
+use Rattle.operations.specs.Pair.{fromRecord, readPair}
 use Rattle.operations.proofs.Narrowed.{narrow-refused}
 use borrow.Author.Needs.{needs}
 use Rattle.operations.proofs.narrow.Statement.{statement}
@@ -28,7 +28,7 @@ pair-number-requires : tie.Need-pair-number-requires
 pair-number-requires c κs = search needs
 
 returns : tie.Need-returns
-returns c = narrow-refused _ _ _ _ (c .before .before .before .read-pair .ensures) _ _ (c .before .enum-told .given .1) (c .pair-number .ensures)
+returns c = narrow-refused (fromRecord _ _) _ _ (c .before .before .before .read-pair .ensures) _ _ (c .before .enum-told .given .1) (c .pair-number .ensures)
 
 narrow-small-requires : tie.Need-narrow-small-requires
 narrow-small-requires c κs =

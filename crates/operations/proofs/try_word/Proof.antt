@@ -5,7 +5,9 @@ use native.Mathlib.Omega.{arith}
 use Rattle.membership.specs.Word.{strange}
 use Rattle.operations.specs.declared.pair.PairOrRefusal.the-variants.{Accepted}
 use Rattle.operations.specs.Pair.{readPair}
-use Rattle.operations.proofs.Trying.{try-refused, try-long, try-strange, try-answers, mask-question, book-long, book-question}
+use Rattle.operations.proofs.Trying.{try-refused, try-long, try-strange, try-answers, mask-question, book-question}
+use Rattle.operations.proofs.Pairs.{pair-ready}
+use Rattle.operations.proofs.Passing.{book-long}
 use borrow.Author.Needs.{needs}
 use Rattle.operations.proofs.try_word.Statement.{statement}
 use Rattle.operations.proofs.try_word.Tie as tie
@@ -54,10 +56,10 @@ spells-requires : tie.Need-spells-requires
 spells-requires c κs = mask-question _ _ _ _ (accepted (c .before .before .before .before)) (omega arith) (of-book c)
 
 sub-accepts : tie.Need-sub-accepts
-sub-accepts c = omega (arith, book-long _ _ _ (accepted (c .before .before .before .before .before)))
+sub-accepts c = omega (arith, book-long _ _ _ (pair-ready _ _ _ (accepted (c .before .before .before .before .before))))
 
 part-accepts-start : tie.Need-part-accepts-start
-part-accepts-start c = omega (arith, book-long _ _ _ (accepted (c .before .before .before .before .before)))
+part-accepts-start c = omega (arith, book-long _ _ _ (pair-ready _ _ _ (accepted (c .before .before .before .before .before))))
 
 part-accepts-end : tie.Need-part-accepts-end
 part-accepts-end c = search needs

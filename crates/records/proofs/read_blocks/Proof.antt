@@ -3,7 +3,7 @@ use Prim.Native.Nat.{_-_}
 use native.Mathlib.Omega.{arith}
 use borrow.Author.Needs.{needs}
 use Rattle.records.specs.Mask.{maskOf}
-use Rattle.records.proofs.Copies.{Copying, copying-starts, copying-more, copying-ends}
+use Rattle.records.proofs.Copies.{Copying, copying-starts, copying-more, copied-mask}
 use Rattle.records.proofs.read_blocks.Statement.{statement}
 use Rattle.records.proofs.read_blocks.Tie as tie
 
@@ -56,7 +56,7 @@ same-length-3 : tie.Need-same-length-3 Inv-loop μ-loop
 same-length-3 c = c .before .loop .inv .uppers
 
 returns : tie.Need-returns Inv-loop μ-loop
-returns c = copying-ends _ _ _ _ _ _ _ _ _ (c .before .loop .inv) (omega arith) (omega arith)
+returns c = copied-mask _ _ _ _ _ _ _ _ _ (c .before .loop .inv) (omega arith) (omega arith)
 
 pub read-blocks-spec : {M : Type 1} → statement M
 read-blocks-spec =

@@ -4,7 +4,7 @@ use mathlib.Core.Bool.{false}
 use native.Mathlib.Omega.{arith}
 use Rattle.records.specs.Check.{unframed}
 use Rattle.records.proofs.Checks.{framing}
-use Rattle.records.proofs.MaskChecks.{refused-1, refused-2, refused-3, refused-4, refused-5, refused-7, refused-8, accepted}
+use Rattle.records.proofs.MaskChecks.{refused-1, refused-2, refused-3, refused-4, refused-5, judged}
 use borrow.Author.Needs.{needs}
 use Rattle.records.proofs.read_mask.Statement.{statement}
 use Rattle.records.proofs.read_mask.Tie as tie
@@ -49,33 +49,18 @@ returns-5 c =
     let first = read .before .before .before .before in
     refused-5 _ _ (read .read .ensures .0) (framed first) (omega arith) (omega arith) (omega arith) (c .if5 .taken)
 
-some-crossed-requires : tie.Need-some-crossed-requires
-some-crossed-requires c κs = search needs
+of-record-requires : tie.Need-of-record-requires
+of-record-requires c κs = search needs
+
+mask-of-requires : tie.Need-mask-of-requires
+mask-of-requires c κs = search needs
 
 returns-6 : tie.Need-returns-6
 returns-6 c =
     let read = c .before .before .before .before in
     let first = read .before .before .before .before in
-    refused-7 _ _ (read .read .ensures .0) (framed first) (omega arith) (omega arith) (omega arith) (omega arith) (sym (c .before .some-crossed .ensures) ∙ c .if6 .taken)
-
-sum-uppers-requires : tie.Need-sum-uppers-requires
-sum-uppers-requires c κs = search needs
-
-returns-7 : tie.Need-returns-7
-returns-7 c =
-    let sixth = c .before .before in
-    let read = sixth .before .before .before .before in
-    let first = read .before .before .before .before in
-    let bounded = sym (sixth .before .some-crossed .ensures) ∙ sixth .if6 .left in
-    refused-8 _ _ (read .read .ensures .0) (framed first) (omega arith) (omega arith) (omega arith) (omega arith) bounded _ (c .before .sum-uppers .ensures) (omega arith)
-
-returns-8 : tie.Need-returns-8
-returns-8 c =
-    let sixth = c .before .before in
-    let read = sixth .before .before .before .before in
-    let first = read .before .before .before .before in
-    let bounded = sym (sixth .before .some-crossed .ensures) ∙ sixth .if6 .left in
-    accepted _ _ (read .read .ensures .0) (framed first) (omega arith) (omega arith) (omega arith) (omega arith) bounded _ (c .before .sum-uppers .ensures) (omega arith)
+    c .mask-of .ensures
+    ∙ judged _ _ (read .read .ensures .0) (framed first) (omega arith) (omega arith) (omega arith) (omega arith) _ (c .before .of-record .ensures)
 
 pub read-mask-spec : {M : Type 1} → statement M
 read-mask-spec =
@@ -91,8 +76,6 @@ read-mask-spec =
     mul-if5
     add-if5
     returns-5
-    some-crossed-requires
-    returns-6
-    sum-uppers-requires
-    returns-7
-    returns-8)
+    of-record-requires
+    mask-of-requires
+    returns-6)

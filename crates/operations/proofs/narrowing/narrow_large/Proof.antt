@@ -1,6 +1,7 @@
 -- `operations::narrowing::narrow_large` meets its contract. Assumes nothing.
 use Prim.Native.Nat.{_+_, _≤_}
 use native.Mathlib.Omega.{arith}
+use Rattle.operations.proofs.Pairs.{pair-ready}
 use Rattle.operations.proofs.Passing.{few-blocks}
 use borrow.Author.Needs.{needs}
 use Rattle.operations.proofs.narrowing.narrow_large.Statement.{statement}
@@ -27,7 +28,7 @@ slice-aggregate-narrow-in-6 c = search needs
 narrow-in-requires : tie.Need-narrow-in-requires
 narrow-in-requires c κs =
     let start = c .before .before .before .before .before .before .before .before .before .before in
-    let (blocks, uppers) = few-blocks _ _ _ (start .pre) in
+    let (blocks, uppers) = few-blocks _ _ _ (pair-ready _ _ _ (start .pre)) in
     let all : start .args .pair .mask .uppers + start .args .pair .mask .blocks ≤ 2048 = omega (arith, blocks, uppers) in
     (start .pre, ((all, all, all), blocks, uppers, search needs))
 

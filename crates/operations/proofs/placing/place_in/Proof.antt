@@ -36,18 +36,17 @@ same-length-6 c = search needs
 returns : tie.Need-returns
 returns c =
     let passed = c .before .before .before .before .before .before .before .before .before .before .before .before .before .before in
-    let (_, _, found) = passed .pass-mask .ensures in
     let (_, (_, (_, (b, (l, (u, _)))))) = passed .pass-mask .last in
-    placed-none _ _ _ (start passed .pre .0) _ _ (passed .pass-mask .result .entries) b l u (omega arith) found _ (c .before .intersection .ensures) (c .if1 .taken)
+    placed-none _ _ _ (start passed .pre .0) _ _ (passed .pass-mask .result .entries) b l u (omega arith) (passed .pass-mask .ensures .found) _ (c .before .intersection .ensures) (c .if1 .taken)
 
 block-at-requires : tie.Need-block-at-requires
 block-at-requires c κs =
     let uppers = c .before .before .before .before .before .before .before .before .before .before .before .before in
     let lowers = uppers .before .before in
     let bases = lowers .before .before in
-    let (size, few, _) = bases .before .pass-mask .ensures in
+    let passed = bases .before .pass-mask .ensures in
     let (_, (there, room)) = start (bases .before) .pre in
-    omega (arith, size, few, there, room .0, bases .bases .given, lowers .lowers .given, uppers .uppers .given)
+    omega (arith, passed .size, passed .few, there, room .0, bases .bases .given, lowers .lowers .given, uppers .uppers .given)
 
 same-length-7 : tie.Need-same-length-7
 same-length-7 c = search needs
@@ -71,10 +70,9 @@ returns-2 : tie.Need-returns-2
 returns-2 c =
     let some = c .before .before .before .before in
     let passed = some .before .before .before .before .before .before .before .before .before .before .before .before .before .before in
-    let (size, _, found) = passed .pass-mask .ensures in
     let (_, (_, (_, (b, (l, (u, _)))))) = passed .pass-mask .last in
-    placed-some _ _ _ (start passed .pre .0) _ _ (passed .pass-mask .result .entries) b l u (omega arith) found _ (some .before .intersection .ensures) (some .if1 .left)
-    (omega (arith, size, start passed .pre .1 .0)) _ (c .block-at .ensures)
+    placed-some _ _ _ (start passed .pre .0) _ _ (passed .pass-mask .result .entries) b l u (omega arith) (passed .pass-mask .ensures .found) _ (some .before .intersection .ensures) (some .if1 .left)
+    (omega (arith, passed .pass-mask .ensures .size, start passed .pre .1 .0)) _ (c .block-at .ensures)
 
 pub place-in-spec : {M : Type 1} → statement M
 place-in-spec =

@@ -1,5 +1,6 @@
 -- `operations::placing::place_large` meets its contract. Assumes nothing.
 use native.Mathlib.Omega.{arith}
+use Rattle.operations.proofs.Pairs.{pair-ready}
 use Rattle.operations.proofs.Passing.{few-blocks}
 use borrow.Author.Needs.{needs}
 use Rattle.operations.proofs.placing.place_large.Statement.{statement}
@@ -27,7 +28,7 @@ place-in-requires : tie.Need-place-in-requires
 place-in-requires c κs =
     let start = c .before .before .before .before .before .before .before .before in
     let (read, there) = start .pre in
-    let few = few-blocks _ _ _ read in
+    let few = few-blocks _ _ _ (pair-ready _ _ _ read) in
     (read, (there, (omega (arith, few), omega (arith, few), omega (arith, few), omega arith)))
 
 returns : tie.Need-returns

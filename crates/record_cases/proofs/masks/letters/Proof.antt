@@ -1,8 +1,6 @@
 -- `record_cases::masks::letters` meets its contract. Assumes nothing.
-use mathlib.Core.Path.{_∙_, sym}
 use native.Mathlib.Omega.{arith}
 use borrow.Author.Needs.{needs}
-use Rattle.record_cases.proofs.Accepted.{mask-lent}
 use Rattle.record_cases.proofs.masks.letters.Statement.{statement}
 use Rattle.record_cases.proofs.masks.letters.Tie as tie
 
@@ -46,9 +44,7 @@ cast-some-foreign : tie.Need-cast-some-foreign
 cast-some-foreign c = omega (arith, c .shared-slice-known2 .given 0)
 
 some-foreign-requires : tie.Need-some-foreign-requires
-some-foreign-requires c κs =
-    let lent = mask-lent _ _ (sym (c .before .before .before .before .read-mask .ensures) ∙ c .before .before .got .given .1) in
-    omega arith
+some-foreign-requires c κs = search needs
 
 slice-aggregate-text : tie.Need-slice-aggregate-text
 slice-aggregate-text c = search needs
