@@ -1,6 +1,6 @@
 -- What the passes need of a book and blocks that are ready for them, and what they find.
 -- Assumes nothing.
-use Prim.Native.Nat.{ℕ, _+_, _-_, _*_, _^_, _≤_, _<_}
+use Prim.Native.Nat.{ℕ, _-_, _*_, _^_, _≤_, _<_}
 use mathlib.Core.Path.{_≡_}
 use mathlib.Core.Bool.{true, false}
 use mathlib.Core.List.{List}

@@ -22,9 +22,9 @@ use Rattle.operations.specs.Placed.{placed}
 use Rattle.operations.specs.Tidy.{tidied, tidyBuffer}
 use Rattle.operations.specs.Try.{tried}
 
--- a book, a mask and an answer buffer, with narrow's answer and the buffer behind it; the same, of a list of blocks; a book, a mask, a block number and a place,
--- with place's answer; a mask and an answer buffer, with tidy's answer and the buffer behind it; a book, a mask and a code, with
--- try's answer
+-- a book, a mask and an answer buffer, with narrow's answer and the buffer behind it; the same, where the mask is a list of
+-- blocks; a book, a mask, a block number and a place, with place's answer; a mask and an answer buffer, with tidy's answer and
+-- the buffer behind it; a book, a mask and a code, with try's answer
 pub data Row : Type 0 where
   narrows : List ℕ → List ℕ → List ℕ → NarrowAnswer → List ℕ → Row
   lists : List ℕ → List Block → List ℕ → NarrowAnswer → List ℕ → Row

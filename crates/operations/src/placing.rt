@@ -3,7 +3,6 @@ ghost use mathlib.Core.Bool.{true, false};
 ghost use mathlib.Core.Path.{_≡_};
 ghost use Prim.Native.Nat.{_+_, _*_, _≤_, _<_};
 ghost use lib.ListN.{length};
-ghost use Rattle.model.specs.Set.{has};
 ghost use Rattle.model.specs.DashedString.{blockAt};
 ghost use Rattle.model.specs.Place.{begins, entryOf, place as placed};
 ghost use Rattle.model.specs.Size.{lowerSum};

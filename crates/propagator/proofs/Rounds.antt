@@ -12,7 +12,7 @@ use lib.ListN.{length}
 use Rattle.model.specs.Set.{has, Member, either}
 use Rattle.model.specs.Automaton.{Table}
 use Rattle.model.specs.Passes.{after, rounds, atMost}
-use Rattle.model.proofs.Set.{member, in-either, members-bytes}
+use Rattle.model.proofs.Set.{in-either, members-bytes}
 use Rattle.model.proofs.Steps.{rounds-stay, in-after}
 use Rattle.bitset.specs.Difference.{difference}
 use Rattle.bitset.proofs.Laws.{same-members, in-difference}

@@ -8,7 +8,7 @@ use native.Mathlib.Omega.{arith}
 use lib.ListN.{length, drop, set}
 use lib.Seq.{getD-drop}
 use Rattle.model.specs.declared.Block.{Block}
-use Rattle.model.specs.DashedString.{block, blockAt, values, Each}
+use Rattle.model.specs.DashedString.{blockAt, values, Each}
 use Rattle.records.specs.Written.{numbered, blocksOf, blocksBetween, Enough}
 use Rattle.records.proofs.Copies.{stored-here, stored-other}
 use Rattle.propagator.specs.Rows.{Writes}

@@ -4,7 +4,7 @@ use mathlib.Core.Path.{_≡_, refl, _∙_, sym}
 use mathlib.Core.Logic.{_⊎_, inl, inr, ⊎-elim}
 use mathlib.Core.Bool.{Bool, true, false, _||_, or-false}
 use mathlib.Core.List.{List, [], _∷_}
-use Prim.Native.Nat.{ℕ, zero, suc, _+_, _*_, _-_, _≤_, _<_}
+use Prim.Native.Nat.{ℕ, _+_, _*_, _-_, _≤_, _<_}
 use native.Mathlib.Nat.{add-zero, add-assoc}
 use native.Mathlib.Numerals.{add-one}
 use native.Mathlib.Omega.{arith}
@@ -15,8 +15,8 @@ use Rattle.model.specs.Size.{uppers}
 use Rattle.model.proofs.Set.{T-or, in-none, in-either}
 use Rattle.bitset.proofs.Laws.{same-test, some-from}
 use Rattle.records.specs.declared.totals.Totals.{Totals}
-use Rattle.records.specs.Check.{refuse, some}
-use Rattle.records.specs.Mask.{blockFrom, blocksFrom, crossed, blocksRefusal, withLetters, numbersOf, maskOr, readBlocks, beyond, foreign}
+use Rattle.records.specs.Check.{some}
+use Rattle.records.specs.Mask.{blockFrom, blocksFrom, crossed, blocksRefusal, withLetters, maskOr, readBlocks, foreign}
 use Rattle.records.specs.Totals.{totals, withBlock, totalsRefusal}
 use Rattle.records.specs.Written.{numbered, blocksOf, blocksBetween, Enough}
 use Rattle.records.proofs.Checks.{none-from}

@@ -2,20 +2,16 @@
 -- Assumes nothing.
 use mathlib.Core.Path.{_≡_, refl, sym, _∙_}
 use mathlib.Core.Bool.{Bool, true, false, not, _&&_, _||_, and-false, or-true, or-false}
-use mathlib.Core.List.{List, [], _∷_}
-use Prim.Native.Nat.{ℕ, zero, suc, _+_, _*_, _-_, _%_, _^_, _≤_, _<_}
-use native.Mathlib.Nat.{add-zero, add-assoc}
+use mathlib.Core.List.{List}
+use Prim.Native.Nat.{ℕ, _+_, _-_, _%_, _^_, _≤_, _<_}
 use native.Mathlib.Numerals.{add-one}
 use native.Mathlib.Omega.{arith}
 use borrow.Author.Tests.{eqb-true, eqb-false, ltb-true, ltb-false, leb-true, leb-false, lt-ltb, le-ltb}
 use lib.Dec.{eqb, ltb, leb}
 use lib.ListN.{length, getD, drop, drop-of-length-le}
 use lib.Seq.{drop-cons}
-use Rattle.model.specs.declared.Block.{Block}
-use Rattle.model.specs.Size.{uppers}
 use Rattle.records.specs.Check.{some}
 use Rattle.records.specs.Book.{stray}
-use Rattle.records.specs.Mask.{count, blockFrom, blocksFrom, maskOf, beyond, foreign}
 
 -- a search through a whole list: an element passes the test where one was found, or where one from i on does
 pub record Passing (p : ℕ → Bool) (l : List ℕ) (i : ℕ) (found : Bool) : Type 0 where

@@ -1,8 +1,8 @@
 -- What checks 7, 8 and 9 look at, taken from block after block.
 use Prim.Native.Nat.{ℕ, _+_}
 use mathlib.Core.Bool.{_||_}
-use lib.Dec.{ltb}
 use mathlib.Core.List.{List}
+use lib.Dec.{ltb}
 use Rattle.model.specs.declared.Block.{Block}
 use Rattle.model.specs.Set.{either}
 use Rattle.model.specs.Size.{uppers}
