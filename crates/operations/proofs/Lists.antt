@@ -70,21 +70,21 @@ module _ (bs b l u : List ℕ) (k : ℕ) (few : k ≤ 1024) where
 module _ (bs : List ℕ) (table : List Block) (k : ℕ) (old : List ℕ) (got : BookOrRefusal) (read : got ≡ readBook bs) where
   -- the book is refused
   pub table-book : (n r : ℕ) → got ≡ bookAnswer.Refused n → r ≡ bookNumber got → NarrowsTable bs table k old old (Refused r)
-  table-book n r is e xs size front =
-      let given = fromList bs xs in
+  table-book n r is e zs size front =
+      let given = fromList bs zs in
       narrow-refused given old (pairAnswer.Refused r) (refused-book given got n r read is e) r r refl refl
 
   -- there are more than 1,024 blocks
   pub table-long : (b : Book) → got ≡ bookAnswer.Accepted b → 1024 < k → NarrowsTable bs table k old old (Refused 4)
   unfolding listRefusal
-  table-long b is h xs size front =
-      let given = fromList bs xs in
-      let long : maskAnswer.Refused 4 ≡ maskOr (numbersOf xs) (listRefusal xs) = rw (on _ 4 (blocksRefusal xs) (lt-ltb 1024 (length xs) (omega arith))) in
+  table-long b is h zs size front =
+      let given = fromList bs zs in
+      let long : maskAnswer.Refused 4 ≡ maskOr (numbersOf zs) (listRefusal zs) = rw (on _ 4 (blocksRefusal zs) (lt-ltb 1024 (length zs) (omega arith))) in
       narrow-refused given old (pairAnswer.Refused 4) (refused-mask given b (sym read ∙ is) (maskAnswer.Refused 4) long 4 4 refl refl) 4 4 refl refl
 
 -- there are no more: what narrow promises of the table's first blocks it promises of the list
 pub table-listed : (bs : List ℕ) (table : List Block) (k : ℕ) (old new : List ℕ) (a : NarrowAnswer) (ys : List Block) → k ≤ 1024 → ys ≡ take k table
     → Narrows (fromList bs ys) old new a → NarrowsTable bs table k old new a
-table-listed bs table k old new a ys few copied h xs size front =
-    let same : ys ≡ xs = copied ∙ sym front ∙ take-all 1024 xs (omega arith) in
+table-listed bs table k old new a ys few copied h zs size front =
+    let same : ys ≡ zs = copied ∙ sym front ∙ take-all 1024 zs (omega arith) in
     rw same at h
