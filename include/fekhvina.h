@@ -52,6 +52,36 @@ uint32_t fekhvina_narrow_verdict(const uint8_t *book, size_t book_len, const uin
 uint32_t fekhvina_narrow_bytes(const uint8_t *book, size_t book_len, const uint8_t *mask, size_t mask_len, uint8_t *out,
                                size_t out_len);
 
+/* A block of a mask: every row of at least lower and at most upper letters of set, which has bit c for letter c. It takes 16
+   bytes: set at 0, lower at 8, upper at 10, and 4 bytes of padding, which are never looked at. */
+struct fekhvina_block {
+    uint64_t set;
+    uint16_t lower;
+    uint16_t upper;
+};
+
+/*
+ * Narrow, with the mask lent as a list of its blocks: a pointer and their number. Where the list is not refused, it gives and
+ * writes what the three functions above do for the mask record of these blocks. The answer is a mask record too.
+ *
+ * Refusals, in order: 1 to 6 (the book), 4 (more than 1,024 blocks), 7 (a lower above its upper), 8 (uppers that sum to more
+ * than 1,024), 9 (a set with a letter that the book lacks), 10 (the answer buffer is shorter than the answer).
+ * Touches: as narrow; of the list nothing. A list of no blocks may be a null pointer; others are aligned as the struct is.
+ * Cost: as narrow, and copying the list. Stack: under 60 kB.
+ */
+
+/* The refusal number, 0 for none. */
+uint32_t fekhvina_narrow_list_refusal(const uint8_t *book, size_t book_len, const struct fekhvina_block *blocks, size_t count,
+                                      uint8_t *out, size_t out_len);
+
+/* The verdict: 1 none, 2 all, 3 one, 4 some; 0 where refused. */
+uint32_t fekhvina_narrow_list_verdict(const uint8_t *book, size_t book_len, const struct fekhvina_block *blocks, size_t count,
+                                      uint8_t *out, size_t out_len);
+
+/* The number of bytes written, 0 where the verdict is none or the call is refused. */
+uint32_t fekhvina_narrow_list_bytes(const uint8_t *book, size_t book_len, const struct fekhvina_block *blocks, size_t count,
+                                    uint8_t *out, size_t out_len);
+
 /*
  * Tidy: writes the normal form of a mask, as a mask record, over the first bytes of the answer buffer. It drops blocks that
  * spell only the empty row, then joins neighbours with equal sets; it spells exactly what the mask spells.
