@@ -71,6 +71,12 @@ const uint8_t *lent_copy(enum place place, const uint8_t *bytes, size_t len)
     return copy;
 }
 
+const void *lent_zeros(size_t len)
+{
+    void *zeros = mmap(NULL, len, PROT_READ, MAP_PRIVATE | MAP_ANONYMOUS | MAP_NORESERVE, -1, 0);
+    return zeros == MAP_FAILED ? NULL : zeros;
+}
+
 /* How much pattern lies in front of a buffer, and how much behind it. */
 static size_t front(void)
 {

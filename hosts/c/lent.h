@@ -10,7 +10,7 @@
 #include <stdint.h>
 
 /* One place for each kind of slice. */
-enum place { BOOK, MASK, CODE, OUT, PLACES };
+enum place { BOOK, MASK, LIST, CODE, OUT, PLACES };
 
 /* How slices are lent: in front of such a page, behind one, or in memory that is allocated for each, with its exact size. */
 enum way { BEFORE_PAGE, BEHIND_PAGE, ALLOCATED, WAYS };
@@ -29,6 +29,9 @@ const uint8_t *lent_copy(enum place place, const uint8_t *bytes, size_t len);
 
 /* The slice of OUT, all of it pattern. */
 uint8_t *lent_out(size_t len);
+
+/* So many bytes of 0 to be read, which may be more than there is memory; NULL where they can't be had. */
+const void *lent_zeros(size_t len);
 
 /* Whether OUT, a slice of len bytes, now is the written bytes and behind them, and beside it, the pattern. */
 int lent_out_is(size_t len, const uint8_t *written, size_t written_len);

@@ -52,14 +52,18 @@ void mask_record(struct bytes *to, const struct block *blocks, unsigned count)
     }
 }
 
+struct block block_at(const struct bytes *mask, size_t block)
+{
+    size_t at = AT_BLOCKS + BLOCK_SIZE * block;
+    struct block is = {get(mask, at, 8), (uint16_t)get(mask, at + AT_LOWER, 2), (uint16_t)get(mask, at + AT_UPPER, 2)};
+    return is;
+}
+
 unsigned mask_blocks(const struct bytes *mask, struct block *blocks)
 {
     unsigned count = (unsigned)get(mask, AT_COUNT, 2);
     for (unsigned i = 0; i < count; i++) {
-        size_t at = AT_BLOCKS + BLOCK_SIZE * (size_t)i;
-        blocks[i].set = get(mask, at, 8);
-        blocks[i].lower = (uint16_t)get(mask, at + AT_LOWER, 2);
-        blocks[i].upper = (uint16_t)get(mask, at + AT_UPPER, 2);
+        blocks[i] = block_at(mask, i);
     }
     return count;
 }

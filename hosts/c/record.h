@@ -43,6 +43,9 @@ void put(struct bytes *to, size_t at, uint64_t number, size_t width);
 /* A mask of these blocks. */
 void mask_record(struct bytes *to, const struct block *blocks, unsigned count);
 
+/* A block of a mask, from 0, where the record is long enough. */
+struct block block_at(const struct bytes *mask, size_t block);
+
 /* The blocks of a mask that is not refused, so at most 1,024; gives how many there are. */
 unsigned mask_blocks(const struct bytes *mask, struct block *blocks);
 
