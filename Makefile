@@ -70,7 +70,8 @@ fuzz: $(HOSTS)/fuzz
 bench: program $(HOSTS)/bench $(HOSTS)/plain_lines
 	@CC=$(CC) hosts/bench/run $(HOSTS)/bench $(PROGRAM) $(HOSTS)/plain_lines
 
-TEST_C = $(addprefix hosts/c/, test.c test_tidy_try.c test_narrow.c faults.c record.c lent.c stack.c count.c)
+TEST_C = $(addprefix hosts/c/, test.c test_tidy_try.c test_narrow.c test_list.c narrow_calls.c faults.c list.c record.c random.c \
+    lent.c stack.c count.c)
 LINES_C = $(addprefix hosts/c/, lines.c lines_records.c lines_streams.c lines_pipes.c faults.c record.c random.c plain.c \
     plain_line.c process.c stream.c count.c)
 FUZZ_C = $(addprefix hosts/c/, fuzz.c fuzz_inputs.c fuzz_damage.c fuzz_compare.c record.c random.c plain.c lent.c)

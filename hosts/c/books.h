@@ -29,6 +29,12 @@
 #define OVERLAP "22 00 01 00 13 01 00 00 00 04 00 00 00 00 00 12 00 02 00 01 00 01 00 00 00 00 00 00 00 00 00 02 00 00"
 #define OVERLAP_MASK 15
 
+/* The same codes. From byte 16 on it has a struct fekhvina_block, {0} 0-2. It has 40 bytes, so that the struct is aligned where
+   the book begins behind a page or ends in front of one. */
+#define OVERLAP_LIST "28 00 01 00 19 01 00 00 00 04 00 00 00 00 00 12 "    \
+    "01 00 00 00 00 00 00 00 00 00 02 00 01 02 03 04 FF 00 FF FF FF FF FF FF"
+#define OVERLAP_BLOCK 16
+
 /* Heights, a sign and four digits, from -0250 to +1200; there is no -0000. Letters 0 to 11 are + - 0 1 .. 9. */
 #define HEIGHTS "B7 00 01 00 0E 0C 00 00 01 00 00 00 00 00 00 "       \
     "01 09 FF FF FF FF FF FF FF FF FF FF " /*  0: the start */            \

@@ -10,8 +10,10 @@ int main(void)
         lent_by(way);
         test_tidy_try();
         test_narrow_place();
+        test_list();
     }
     test_tidy_try_once();
     test_narrow_place_once();
+    test_list_once();
     return count_end();
 }

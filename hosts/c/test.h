@@ -10,9 +10,11 @@
 /* In each way of lending slices that finds what is touched outside them. */
 void test_tidy_try(void);
 void test_narrow_place(void);
+void test_list(void);
 
 /* Null slices and the stack, which do not depend on it. */
 void test_tidy_try_once(void);
 void test_narrow_place_once(void);
+void test_list_once(void);
 
 #endif

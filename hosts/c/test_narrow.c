@@ -1,16 +1,15 @@
-/* Tries the C entries of narrow and place: see test.h. */
+/* Tries the C entries of narrow and place: see test.h. Those of narrow that take a list are given the same masks. */
 #include "books.h"
 #include "faults.h"
 #include "fekhvina.h"
 #include "lent.h"
+#include "narrow_calls.h"
 #include "record.h"
 #include "stack.h"
 #include "test.h"
 
 #include <stdio.h>
 #include <string.h>
-
-enum { NONE = 1, ALL, ONE, SOME };
 
 /* ---- heights */
 
@@ -24,50 +23,50 @@ enum { NONE = 1, ALL, ONE, SOME };
 
 /* ---- narrow */
 
-static struct bytes book, in, answer;
-
-typedef uint32_t narrow_entry(const uint8_t *, size_t, const uint8_t *, size_t, uint8_t *, size_t);
-
-/* Whether an entry says so of `book` and `in`, and writes this much of `answer` and no more. */
-static int entry_is(narrow_entry *entry, uint32_t expected, size_t out_len, size_t written)
+/* Counts a case of the entries that take a record, and one of those that take a list. */
+static void count_both(const char *name, int record, int list)
 {
-    const uint8_t *b = lent_copy(BOOK, book.at, book.len), *m = lent_copy(MASK, in.at, in.len);
-    uint32_t got = entry(b, book.len, m, in.len, lent_out(out_len), out_len);
-    return got == expected && lent_out_is(out_len, answer.at, written) && unchanged(b, &book) && unchanged(m, &in);
+    count("narrow", name, record);
+    count("narrow, list", name, list);
 }
 
-/* Whether the three entries do, with an answer buffer of this length. */
-static int narrow_is(size_t out_len, uint32_t refusal, uint32_t verdict, size_t written)
+static int both_are(size_t out_len, uint32_t refusal, uint32_t verdict, size_t written)
 {
-    return entry_is(fekhvina_narrow_refusal, refusal, out_len, written)
-        && entry_is(fekhvina_narrow_verdict, verdict, out_len, written)
-        && entry_is(fekhvina_narrow_bytes, (uint32_t)written, out_len, written);
+    return record_is(out_len, refusal, verdict, written) && list_is(out_len, refusal, verdict, written);
 }
 
-static int refused_is(size_t out_len, uint32_t refusal)
+/* With no buffer, one too short for any record, and one that would do. */
+static int finds_none(narrowing *is)
 {
-    return narrow_is(out_len, refusal, 0, 0);
+    return is(0, 0, NONE, 0) && is(5, 0, NONE, 0) && is(20000, 0, NONE, 0);
 }
 
-/* `book` and `in` have no legal code: with no buffer, one too short for any record, and one that would do. */
+/* `book` and `in` have no legal code. */
 static void narrows_to_none(const char *name)
 {
-    count("narrow", name, narrow_is(0, 0, NONE, 0) && narrow_is(5, 0, NONE, 0) && narrow_is(20000, 0, NONE, 0));
+    count_both(name, finds_none(record_is), finds_none(list_is));
 }
 
-/* The narrowed mask of `book` and `in` is in `answer`: buffers of the needed size, of one byte more, of many more, of one less,
-   and of none. Where `again` is not 0, narrowing the answer gives that verdict and the answer itself. */
-static void narrows(const char *name, uint32_t verdict, uint32_t again)
+/* With buffers of the needed size, of one byte more, of many more, of one less, and of none. */
+static int finds(narrowing *is, uint32_t verdict)
 {
     size_t need = answer.len;
-    int holds = narrow_is(need, 0, verdict, need) && narrow_is(need + 1, 0, verdict, need)
-        && narrow_is(need + 1000, 0, verdict, need) && refused_is(need - 1, 10) && refused_is(0, 10);
+    return is(need, 0, verdict, need) && is(need + 1, 0, verdict, need) && is(need + 1000, 0, verdict, need)
+        && is(need - 1, 10, 0, 0) && is(0, 10, 0, 0);
+}
+
+/* The narrowed mask of `book` and `in` is in `answer`. Where `again` is not 0, narrowing the answer gives that verdict and the
+   answer itself. */
+static void narrows(const char *name, uint32_t verdict, uint32_t again)
+{
+    int record = finds(record_is, verdict), list = finds(list_is, verdict);
     if (again != 0) {
-        in.len = need;
+        size_t need = in.len = answer.len;
         memcpy(in.at, answer.at, need);
-        holds = holds && narrow_is(need, 0, again, need);
+        record = record && record_is(need, 0, again, need);
+        list = list && list_is(need, 0, again, need);
     }
-    count("narrow", name, holds);
+    count_both(name, record, list);
 }
 
 struct narrow_case {
@@ -350,19 +349,19 @@ static void every_size(void)
         hex(&book, FORK);
         mask_record(&answer, list + joined, size - joined);
         mask_record(&in, &exact, 1);
-        in_one = in_one && narrow_is(answer.len, 0, ONE, answer.len) && refused_is(answer.len - 1, 10) && place_is(1, 1, 0, first)
-            && place_is(1, size, 0, last) && place_is(1, 0, 0, nothing) && lacks(1, size + 1);
+        in_one = in_one && both_are(answer.len, 0, ONE, answer.len) && both_are(answer.len - 1, 10, 0, 0)
+            && place_is(1, 1, 0, first) && place_is(1, size, 0, last) && place_is(1, 0, 0, nothing) && lacks(1, size + 1);
         mask_repeated(&in, both, both, size);
-        in_many = in_many && narrow_is(answer.len, 0, ONE, answer.len) && refused_is(answer.len - 1, 10) && place_is(1, 1, 0, first)
-            && place_is(size, 1, 0, last) && place_is(size, 0, 0, nothing) && lacks(size + 1, 0);
+        in_many = in_many && both_are(answer.len, 0, ONE, answer.len) && both_are(answer.len - 1, 10, 0, 0)
+            && place_is(1, 1, 0, first) && place_is(size, 1, 0, last) && place_is(size, 0, 0, nothing) && lacks(size + 1, 0);
         hex(&book, BOOK_C);
         mask_repeated(&answer, zero, one, size);
         mask_repeated(&in, zero, one, size);
-        optional = optional && narrow_is(answer.len, 0, ALL, answer.len) && place_is(size, 0, 0, size % 2 == 1 ? zero : one);
+        optional = optional && both_are(answer.len, 0, ALL, answer.len) && place_is(size, 0, 0, size % 2 == 1 ? zero : one);
     }
-    count("narrow and place", "one block l-l, of every size", in_one);
-    count("narrow and place", "blocks 1-1, of every number", in_many);
-    count("narrow and place", "blocks 0-1, of every number", optional);
+    count("narrow, list and place", "one block l-l, of every size", in_one);
+    count("narrow, list and place", "blocks 1-1, of every number", in_many);
+    count("narrow, list and place", "blocks 0-1, of every number", optional);
 }
 
 /* ---- refusals */
@@ -376,11 +375,18 @@ static void good(void)
     mask_record(&in, &block_0, 1);
 }
 
-/* Narrow with no buffer and with one that would do; place with a place that is there, and with what would be 11. */
-static void refuses(const char *name, uint32_t refusal)
+/* Place with a place that is there, and with what would be 11. */
+static void record_refused(const char *name, uint32_t refusal)
 {
-    count("narrow", name, refused_is(0, refusal) && refused_is(20000, refusal));
+    count("narrow", name, refuses(record_is, refusal));
     count("place", name, place_is(1, 0, refusal, nothing) && place_is(1, 1, refusal, nothing) && place_is(0, 0, refusal, nothing));
+}
+
+/* Where it is not the head of the mask's record that is refused. */
+static void both_refused(const char *name, uint32_t refusal)
+{
+    record_refused(name, refusal);
+    count("narrow, list", name, refuses(list_is, refusal));
 }
 
 static void bad_records(void)
@@ -388,23 +394,23 @@ static void bad_records(void)
     for (const struct fault *f = mask_faults; f->name != NULL; f++) {
         good();
         hex(&in, f->bytes);
-        refuses(f->name, f->refusal);
+        (f->refusal < 7 ? record_refused : both_refused)(f->name, f->refusal);
     }
     for (const struct fault *f = book_faults; f->name != NULL; f++) {
         good();
         hex(&book, f->bytes);
-        refuses(f->name, f->refusal);
+        both_refused(f->name, f->refusal);
         hex(&in, "04 00 01 00");
-        refuses("a bad mask besides: the book's fault decides", f->refusal);
+        record_refused("a bad mask besides: the book's fault decides", f->refusal);
     }
     good();
     memset(in.at + in.len, 0, 65536);
     in.len += 65536;
-    refuses("65,554 bytes and a length field of 18", 1);
+    record_refused("65,554 bytes and a length field of 18", 1);
     good();
     memset(book.at + book.len, 0, 65536);
     book.len += 65536;
-    refuses("65,553 bytes and a length field of 17", 1);
+    both_refused("65,553 bytes and a length field of 17", 1);
 }
 
 struct mask_case {
@@ -433,11 +439,11 @@ static void order(void)
     for (size_t i = 0; i < sizeof mask_cases / sizeof mask_cases[0]; i++) {
         hex(&book, BOOK_C);
         mask_record(&in, mask_cases[i].mask, mask_cases[i].count);
-        refuses(mask_cases[i].name, mask_cases[i].refusal);
+        both_refused(mask_cases[i].name, mask_cases[i].refusal);
     }
     hex(&book, "11 00 01 00 01 02 01 01 00 00 00 00 00 00 00 00 00");
     mask_record(&in, &block_2, 1);
-    refuses("a start that is no state and a set with letter m", 6);
+    both_refused("a start that is no state and a set with letter m", 6);
 }
 
 /* Empty slices may be null pointers; none needs no buffer. */
@@ -479,17 +485,27 @@ static void one_narrow(void)
     fekhvina_narrow_verdict(book.at, book.len, in.at, in.len, answer.at, sizeof answer.at);
 }
 
+static const struct fekhvina_block *blocks;
+static size_t block_count;
+
+static void one_list(void)
+{
+    fekhvina_narrow_list_verdict(book.at, book.len, blocks, block_count, answer.at, sizeof answer.at);
+}
+
 static void one_place(void)
 {
     fekhvina_place_set(book.at, book.len, in.at, in.len, 1, 1);
 }
 
-/* The stack of narrow and place for a book and mask, in `book` and `in`. */
+/* The stack of the entries for a book and mask, in `book` and `in`. */
 static void stack_of(const char *name)
 {
-    size_t narrow = stack_used(one_narrow), place = stack_used(one_place);
-    printf("stack, %s: narrow %zu bytes, place %zu bytes\n", name, narrow, place);
+    blocks = lend_list(&block_count);
+    size_t narrow = stack_used(one_narrow), list = stack_used(one_list), place = stack_used(one_place);
+    printf("stack, %s: narrow %zu bytes, from a list %zu bytes, place %zu bytes\n", name, narrow, list, place);
     count("narrow, stack under 43 kB", name, narrow < 43000);
+    count("narrow, list, stack under 60 kB", name, list < 60000);
     count("place, stack under 43 kB", name, place < 43000);
 }
 
