@@ -1,7 +1,7 @@
 //! Holds what the entries answer to what a book and a mask mean.
 
 use crate::buffer::Buffer;
-use crate::entries;
+use crate::entries::{self, ListBlock};
 use crate::form::{cuts, is_normal, mask_record, normal_form, read_mask, text, Automaton, Block, Word};
 use crate::meaning::{each_cut, Meaning, Shown};
 use std::collections::BTreeSet;
@@ -91,10 +91,13 @@ impl Case<'_> {
         Ok(codes)
     }
 
-    /// Demand 3, clause by clause, of what narrow and place answer.
+    /// Demand 3, clause by clause, of what narrow, given the record or the list, and place answer.
     pub fn narrow(&self) -> Result<Narrowed, Broken> {
         let call = |entry, out: &mut [u8]| entries::narrow(entry, &self.book_record, &self.mask_record, out);
-        let (numbers, written) = answered(&entries::NARROW, call)?;
+        let answer = answered(&entries::NARROW, call)?;
+        let of_list = self.narrow_list().map_err(|clause| format!("from a list: {clause}"))?;
+        hold(of_list == answer, "the list of the mask's blocks gets the same answer")?;
+        let (numbers, written) = answer;
         let (verdict, legal) = (numbers[1], self.meaning.legal);
         hold((verdict == NONE) == (legal == 0), "none exactly when no code of the mask is legal")?;
         let all = legal > 0 && legal == self.meaning.codes.len();
@@ -115,6 +118,13 @@ impl Case<'_> {
         let other = if one { ONE } else { SOME };
         hold(all || verdict == other, "one exactly when each block has one letter and l = u, else some")?;
         Ok(Narrowed { verdict, list, mask })
+    }
+
+    /// What the entries that take a list answer and write.
+    fn narrow_list(&self) -> Result<(Vec<u32>, Vec<u8>), Broken> {
+        let listed = |block: &Block| ListBlock { set: block.set, lower: block.lower as u16, upper: block.upper as u16 };
+        let list: Vec<ListBlock> = self.mask.iter().map(listed).collect();
+        answered(&entries::LIST, |entry, out| entries::narrow_list(entry, &self.book_record, &list, out))
     }
 
     /// What place returns, block by block, for places 1 to l and then 0, each held to the meaning.
