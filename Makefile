@@ -74,7 +74,8 @@ TEST_C = $(addprefix hosts/c/, test.c test_tidy_try.c test_narrow.c test_list.c 
     lent.c stack.c count.c)
 LINES_C = $(addprefix hosts/c/, lines.c lines_records.c lines_streams.c lines_pipes.c faults.c record.c random.c plain.c \
     plain_line.c process.c stream.c count.c)
-FUZZ_C = $(addprefix hosts/c/, fuzz.c fuzz_inputs.c fuzz_damage.c fuzz_compare.c record.c random.c plain.c lent.c)
+FUZZ_C = $(addprefix hosts/c/, fuzz.c fuzz_inputs.c fuzz_damage.c fuzz_compare.c list.c record.c random.c plain.c \
+    lent.c)
 TOOLS_C = $(addprefix hosts/c/, tools.c record.c process.c stream.c count.c)
 FORM_C = $(addprefix hosts/c/, form.c keys.c record.c)
 FORMS_C = $(addprefix hosts/c/, forms.c forms_keys.c forms_terminal.c keys.c faults.c record.c random.c process.c stream.c \

@@ -2,6 +2,7 @@
 #define _POSIX_C_SOURCE 200809L
 #include "fuzz.h"
 
+#include "list.h"
 #include "random.h"
 
 #include <inttypes.h>
@@ -47,7 +48,9 @@ static void show_input(void)
     if (input.code_in_book != APART) {
         printf("  the code lies in the book's bytes, from byte %zu on\n", input.code_in_book);
     }
-    printf("  answer buffer of narrow %zu bytes, of tidy %zu bytes\n", input.narrow_room, input.tidy_room);
+    printf("  the list has %zu of the mask's blocks, and padding from %u on\n", list_count(&input.list), input.padding);
+    printf("  answer buffer of narrow %zu bytes, with the list %zu bytes, of tidy %zu bytes\n", input.narrow_room,
+           input.list_room, input.tidy_room);
     printf("  block %" PRIu32 ", place %" PRIu32 "\n", input.block, input.place);
 }
 
@@ -85,34 +88,34 @@ static void catch_signals(void)
 
 /* ---- how the calls ended */
 
-enum { N = 1 << NARROW, T = 1 << TIDY, P = 1 << PLACE, Y = 1 << TRY };
+enum { N = 1 << NARROW, L = 1 << NARROW_LIST, T = 1 << TIDY, P = 1 << PLACE, Y = 1 << TRY };
 
 static const struct {
     const char *name;
     unsigned operations; /* where it can come */
 } outcomes[OUTCOMES] = {
-    {"book refused 1", N | P | Y},
-    {"book refused 2", N | P | Y},
-    {"book refused 3", N | P | Y},
-    {"book refused 4", N | P | Y},
-    {"book refused 5", N | P | Y},
-    {"book refused 6", N | P | Y},
+    {"book refused 1", N | L | P | Y},
+    {"book refused 2", N | L | P | Y},
+    {"book refused 3", N | L | P | Y},
+    {"book refused 4", N | L | P | Y},
+    {"book refused 5", N | L | P | Y},
+    {"book refused 6", N | L | P | Y},
     {"mask refused 1", N | T | P | Y},
     {"mask refused 2", N | T | P | Y},
     {"mask refused 3", N | T | P | Y},
-    {"mask refused 4", N | T | P | Y},
+    {"mask refused 4", N | L | T | P | Y},
     {"mask refused 5", N | T | P | Y},
-    {"mask refused 7", N | T | P | Y},
-    {"mask refused 8", N | T | P | Y},
-    {"refused 9", N | P | Y},
-    {"refused 10", N | T},
+    {"mask refused 7", N | L | T | P | Y},
+    {"mask refused 8", N | L | T | P | Y},
+    {"refused 9", N | L | P | Y},
+    {"refused 10", N | L | T},
     {"refused 11", P},
     {"refused 12", Y},
     {"refused 13", Y},
-    {"none", N | P},
-    {"all", N | P},
-    {"one", N | P},
-    {"some", N | P},
+    {"none", N | L | P},
+    {"all", N | L | P},
+    {"one", N | L | P},
+    {"some", N | L | P},
     {"tidied", T},
     {"mask no, book no", Y},
     {"mask yes, book no", Y},
@@ -124,7 +127,7 @@ static const struct {
 static unsigned print_tally(void)
 {
     unsigned never = 0;
-    printf("%-20s%12s%12s%12s%12s\n", "", "narrow", "tidy", "place", "try");
+    printf("%-20s%12s%12s%12s%12s%12s\n", "", "narrow", "list", "tidy", "place", "try");
     for (int i = 0; i < OUTCOMES; i++) {
         printf("%-20s", outcomes[i].name);
         for (int operation = 0; operation < OPERATIONS; operation++) {

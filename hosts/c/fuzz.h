@@ -1,5 +1,5 @@
 /*
- * Compares the twelve C entries with the operations of plain.h, on good, damaged and random records. A run is one input, given
+ * Compares the fifteen C entries with the operations of plain.h, on good, damaged and random records. A run is one input, given
  * to every entry: its numbers, every byte of the answer buffer and of what was lent to be read are compared; at times it is
  * given again with a field changed, so that nothing kept between calls goes unnoticed. What a run does depends on the seed and
  * its number alone: it can be repeated by itself.
@@ -17,14 +17,16 @@
 
 struct input {
     struct bytes book, mask, code;
+    struct bytes list; /* the blocks of the mask, as list.h has them: made by compare */
+    uint8_t padding;
     size_t mask_in_book, code_in_book; /* or where in the book's slice they lie */
     int null;                          /* empty slices are null pointers */
     enum way way;
     uint32_t block, place;
-    size_t narrow_room, tidy_room; /* the lengths of the answer buffers */
+    size_t narrow_room, list_room, tidy_room; /* the lengths of the answer buffers */
 };
 
-/* Makes an input, but for the lengths of the answer buffers. */
+/* Makes an input, but for the list and the lengths of the answer buffers. */
 void random_input(struct input *in);
 
 /* Changes a field of it; the lengths stay. */
@@ -45,7 +47,7 @@ void damage_mask(struct bytes *mask, unsigned letters);
 /* Any bytes, at times with a right length and kind. */
 void random_bytes(struct bytes *record, unsigned kind);
 
-enum operation { NARROW, TIDY, PLACE, TRY, OPERATIONS };
+enum operation { NARROW, NARROW_LIST, TIDY, PLACE, TRY, OPERATIONS };
 
 /* Ways for a call to end. A refusal 1 to 5 may be the book's or the mask's. */
 enum {

@@ -2,6 +2,7 @@
 #include "fuzz.h"
 
 #include "fekhvina.h"
+#include "list.h"
 #include "plain.h"
 
 #include <inttypes.h>
@@ -13,11 +14,13 @@ const char *entry = "no entry";
 /* The input in hand, and its slices as they are lent, to the entries and to the plain version. */
 static const struct input *in;
 static const uint8_t *book, *mask, *code;
+static const void *list;
 
 /* What the answer buffer is to begin with. */
 static uint8_t answer[6 + 12 * 1024];
 
 #define PAIR book, in->book.len, mask, in->mask.len
+#define LISTED book, in->book.len, list, list_count(&in->list)
 
 /* ---- lending and comparing */
 
@@ -41,7 +44,8 @@ static void same(uint64_t got, uint64_t expected)
     if (got != expected) {
         differs("gives %" PRIu64 " where the plain version has %" PRIu64, got, expected);
     }
-    if (!unchanged(book, &in->book) || !unchanged(mask, &in->mask) || !unchanged(code, &in->code)) {
+    if (!unchanged(book, &in->book) || !unchanged(mask, &in->mask) || !unchanged(list, &in->list) ||
+        !unchanged(code, &in->code)) {
         differs("has changed bytes that were lent to be read");
     }
 }
@@ -92,6 +96,19 @@ static unsigned compare_narrow(struct input *input)
     return most.verdict;
 }
 
+static void compare_list(struct input *input)
+{
+    size_t room = input->list_room = random_room(plain_narrow_list(LISTED, answer, sizeof answer).bytes);
+    struct plain_answer plain = plain_narrow_list(LISTED, answer, room);
+    entry = "narrow_list_refusal";
+    same_buffer(fekhvina_narrow_list_refusal(LISTED, lend_out(room), room), plain.refusal, room, plain.bytes);
+    entry = "narrow_list_verdict";
+    same_buffer(fekhvina_narrow_list_verdict(LISTED, lend_out(room), room), plain.verdict, room, plain.bytes);
+    entry = "narrow_list_bytes";
+    same_buffer(fekhvina_narrow_list_bytes(LISTED, lend_out(room), room), plain.bytes, room, plain.bytes);
+    ended(NARROW_LIST, plain.refusal, VERDICT - 1 + plain.verdict);
+}
+
 static void compare_tidy(struct input *input)
 {
     size_t room = input->tidy_room = random_room(plain_tidy(mask, in->mask.len, answer, sizeof answer).bytes);
@@ -132,11 +149,14 @@ static void compare_try(void)
 void compare(struct input *input)
 {
     in = input;
+    mask_list(&input->list, &in->mask, in->padding);
     lent_by(in->way);
     book = lend(BOOK, &in->book, APART);
     mask = lend(MASK, &in->mask, in->mask_in_book);
+    list = lend(LIST, &in->list, APART);
     code = lend(CODE, &in->code, in->code_in_book);
     unsigned verdict = compare_narrow(input);
+    compare_list(input);
     compare_tidy(input);
     compare_place(verdict);
     compare_try();

@@ -254,6 +254,7 @@ void random_input(struct input *in)
     random_code(in);
     spoil(in);
     random_place(in);
+    in->padding = (uint8_t)random_below(256);
 }
 
 void change_input(struct input *in)

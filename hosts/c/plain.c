@@ -141,6 +141,21 @@ static unsigned read_mask(const uint8_t *record, size_t len)
     return check_blocks();
 }
 
+/* The same of a list. */
+static unsigned read_list(const struct fekhvina_block *list, size_t count)
+{
+    if (count > MOST) {
+        return 4;
+    }
+    work.count = (unsigned)count;
+    for (unsigned i = 0; i < work.count; i++) {
+        work.blocks[i].set = list[i].set;
+        work.blocks[i].lower = list[i].lower;
+        work.blocks[i].upper = list[i].upper;
+    }
+    return check_blocks();
+}
+
 static size_t write_mask(uint8_t *out, const struct block *blocks, unsigned count)
 {
     size_t len = 6 + 12 * count;
@@ -341,12 +356,11 @@ static int is_one(unsigned count)
     return 1;
 }
 
-struct plain_answer plain_narrow(const uint8_t *book, size_t book_len, const uint8_t *mask, size_t mask_len, uint8_t *out,
-                                 size_t room)
+/* Narrows the mask that was read, where nothing is refused so far. */
+static struct plain_answer narrow(unsigned refusal, uint8_t *out, size_t room)
 {
-    struct plain_answer answer = {0, 0, 0};
-    answer.refusal = read_both(book, book_len, mask, mask_len);
-    if (answer.refusal != 0) {
+    struct plain_answer answer = {refusal, 0, 0};
+    if (refusal != 0) {
         return answer;
     }
     unsigned verdict = passes();
@@ -363,6 +377,19 @@ struct plain_answer plain_narrow(const uint8_t *book, size_t book_len, const uin
     }
     answer.verdict = verdict;
     return answer;
+}
+
+struct plain_answer plain_narrow(const uint8_t *book, size_t book_len, const uint8_t *mask, size_t mask_len, uint8_t *out,
+                                 size_t room)
+{
+    return narrow(read_both(book, book_len, mask, mask_len), out, room);
+}
+
+struct plain_answer plain_narrow_list(const uint8_t *book, size_t book_len, const struct fekhvina_block *list, size_t count,
+                                      uint8_t *out, size_t room)
+{
+    unsigned refusal = read_book(book, book_len);
+    return narrow(refusal != 0 ? refusal : read_list(list, count), out, room);
 }
 
 struct plain_place plain_place(const uint8_t *book, size_t book_len, const uint8_t *mask, size_t mask_len, uint32_t block,

@@ -1,9 +1,12 @@
 /*
  * The four operations in plain C, written from document 01 alone: what the tests of the line program and the fuzzing compare
- * with, and what the product's speed is measured against. It shares no code with the product, and nothing in it is proved.
+ * with, and what the product's speed is measured against. It shares no code with the product, only the struct of a block, and
+ * nothing in it is proved.
  */
 #ifndef PLAIN_H
 #define PLAIN_H
+
+#include "fekhvina.h"
 
 #include <stddef.h>
 #include <stdint.h>
@@ -32,6 +35,10 @@ struct plain_try {
 /* Narrows a mask by a book, and writes the answer over the first bytes of out, which has this much room. */
 struct plain_answer plain_narrow(const uint8_t *book, size_t book_len, const uint8_t *mask, size_t mask_len, uint8_t *out,
                                  size_t room);
+
+/* The same of a mask that is a list of blocks. */
+struct plain_answer plain_narrow_list(const uint8_t *book, size_t book_len, const struct fekhvina_block *list, size_t count,
+                                      uint8_t *out, size_t room);
 
 /* The entry of the narrowed list for a block, from 1, and its place; place 0 is the optional part. */
 struct plain_place plain_place(const uint8_t *book, size_t book_len, const uint8_t *mask, size_t mask_len, uint32_t block,
