@@ -25,7 +25,8 @@ narrowing record_is, list_is;
 /* Whether they refuse, with no buffer and with one that would do. */
 int refuses(narrowing *is, uint32_t refusal);
 
-/* Lends the list of the blocks of `in`; its padding is another each time, and each byte of it has all values in 256 times. */
+/* Lends the list of the blocks of `in`. Each time its padding changes by an odd number, so that 256 times give each byte of it
+   all values, and so do 256 times list_is for each entry. */
 const struct fekhvina_block *lend_list(size_t *count);
 
 #endif
