@@ -81,7 +81,7 @@ FORM_C = $(addprefix hosts/c/, form.c keys.c record.c)
 FORMS_C = $(addprefix hosts/c/, forms.c forms_keys.c forms_terminal.c keys.c faults.c record.c random.c process.c stream.c \
     temporary.c count.c)
 BENCH_C = $(addprefix hosts/bench/, bench.c growth.c narrows.c streams.c timing.c workloads.c) \
-    $(addprefix hosts/c/, plain.c plain_line.c process.c random.c record.c stream.c temporary.c)
+    $(addprefix hosts/c/, list.c plain.c plain_line.c process.c random.c record.c stream.c temporary.c)
 PLAIN_LINES_C = hosts/bench/plain_lines.c $(addprefix hosts/c/, plain.c plain_line.c stream.c)
 HEADERS = $(wildcard hosts/c/*.h hosts/bench/*.h) include/fekhvina.h
 

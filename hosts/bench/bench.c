@@ -1,7 +1,7 @@
 /*
  * The benchmark: see bench.h. Usage: bench PROGRAM PLAIN_PROGRAM, the paths of the line program and of plain_lines; bench, the
- * workloads beside the plain narrow alone; or bench --count WORKLOAD product|plain TIMES, which only runs that narrow so many
- * times, for a tool that counts instructions.
+ * workloads beside the plain narrow alone; or bench --count WORKLOAD product|list|plain TIMES, which only runs that narrow so
+ * many times, for a tool that counts instructions.
  */
 #include "bench.h"
 
@@ -40,6 +40,23 @@ void bench_workloads(void)
                ratio <= w->target ? "met" : "missed", disturbed);
         fflush(stdout);
         product_best[i] = product.best;
+    }
+}
+
+void bench_lists(void)
+{
+    printf("\nThe same by the product, with the mask as a list beside its record\n\n");
+    printf("%-9s %19s %19s %15s\n", "", "list", "record", "list/record");
+    printf("%-9s %9s %9s %9s %9s %7s %7s\n", "workload", "best", "median", "best", "median", "best", "median");
+    for (unsigned i = 0; i < WORKLOADS; i++) {
+        const struct workload *w = &workloads[i];
+        struct contender list = {run_list, w, 0, 0}, record = {run_product, w, 0, 0};
+        struct contender *by[] = {&list, &record};
+        demand_same_of_list(w);
+        const char *disturbed = time_by_turns(by, 2, ROUNDS, 1);
+        printf("%-9s %9.2f %9.2f %9.2f %9.2f %7.3f %7.3f%s\n", w->name, list.best / 1e3, list.median / 1e3, record.best / 1e3,
+               record.median / 1e3, list.best / record.best, list.median / record.median, disturbed);
+        fflush(stdout);
     }
 }
 
@@ -97,8 +114,14 @@ void bench_gecode(void)
 
 static int run_only(const struct workload *workload, const char *which, const char *times)
 {
-    double (*run)(const void *, unsigned) = strcmp(which, "plain") == 0 ? run_plain : run_product;
-    run(workload, (unsigned)atoi(times));
+    unsigned count = (unsigned)atoi(times);
+    if (strcmp(which, "plain") == 0) {
+        run_plain(workload, count);
+    } else if (strcmp(which, "list") == 0) {
+        run_list(workload, count);
+    } else {
+        run_product(workload, count);
+    }
     return 0;
 }
 
@@ -109,13 +132,14 @@ int main(int argc, char **argv)
         return run_only(workload_named(argv[2]), argv[3], argv[4]);
     }
     if (argc != 1 && argc != 3) {
-        fprintf(stderr, "usage: bench [PROGRAM PLAIN_PROGRAM], or bench --count WORKLOAD product|plain TIMES\n");
+        fprintf(stderr, "usage: bench [PROGRAM PLAIN_PROGRAM], or bench --count WORKLOAD product|list|plain TIMES\n");
         return 2;
     }
     stay_on_one_processor();
     printf("A row is disturbed where other programs had over a twentieth of the processor: its long times are too long.\n\n");
     bench_workloads();
     if (argc == 3) {
+        bench_lists();
         bench_gecode();
         bench_growth();
         bench_streams(argv[1], argv[2]);

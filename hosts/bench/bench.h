@@ -7,6 +7,9 @@
 /* The workloads: the product beside the plain narrow. */
 void bench_workloads(void);
 
+/* The workloads by the product, with the mask as a list beside its record. */
+void bench_lists(void);
+
 /* The workloads by Gecode, where it is built in; behind bench_workloads. */
 void bench_gecode(void);
 

@@ -34,6 +34,16 @@ double run_plain(const void *workload, unsigned times)
     return now() - start;
 }
 
+double run_list(const void *workload, unsigned times)
+{
+    const struct workload *w = workload;
+    double start = now();
+    for (unsigned i = 0; i < times; i++) {
+        fekhvina_narrow_list_bytes(w->book.at, w->book.len, w->list, w->blocks, out, ROOM);
+    }
+    return now() - start;
+}
+
 const char *verdict_of_both(const struct workload *w)
 {
     memset(out, 0xAA, ROOM);
@@ -51,4 +61,18 @@ const char *verdict_of_both(const struct workload *w)
         exit(1);
     }
     return verdict_words[verdict];
+}
+
+void demand_same_of_list(const struct workload *w)
+{
+    static uint8_t list_out[ROOM];
+    uint32_t verdict = fekhvina_narrow_verdict(w->book.at, w->book.len, w->mask.at, w->mask.len, out, ROOM);
+    uint32_t bytes = fekhvina_narrow_bytes(w->book.at, w->book.len, w->mask.at, w->mask.len, out, ROOM);
+    if (fekhvina_narrow_list_refusal(w->book.at, w->book.len, w->list, w->blocks, list_out, ROOM) != 0 ||
+        fekhvina_narrow_list_verdict(w->book.at, w->book.len, w->list, w->blocks, list_out, ROOM) != verdict ||
+        fekhvina_narrow_list_bytes(w->book.at, w->book.len, w->list, w->blocks, list_out, ROOM) != bytes ||
+        memcmp(out, list_out, bytes) != 0) {
+        printf("%s: the product narrows the list and the record differently\n", w->name);
+        exit(1);
+    }
 }

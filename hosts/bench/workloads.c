@@ -2,6 +2,7 @@
 #include "workloads.h"
 
 #include "books.h"
+#include "list.h"
 #include "random.h"
 
 #include <string.h>
@@ -81,10 +82,19 @@ struct workload workloads[WORKLOADS] = {
     {.name = "optional", .target = 1.0, .make = make_optional},
 };
 
+static void make_list(struct workload *workload)
+{
+    static struct bytes list;
+    mask_list(&list, &workload->mask, 0);
+    memcpy(workload->list, list.at, list.len);
+    workload->blocks = list_count(&list);
+}
+
 void workloads_make(void)
 {
     for (unsigned i = 0; i < WORKLOADS; i++) {
         workloads[i].make(&workloads[i]);
+        make_list(&workloads[i]);
     }
 }
 

@@ -4,6 +4,7 @@
 #ifndef WORKLOADS_H
 #define WORKLOADS_H
 
+#include "fekhvina.h"
 #include "record.h"
 
 enum { WORKLOADS = 5 };
@@ -13,6 +14,8 @@ struct workload {
     double target; /* the most that the product may take, in times of the plain narrow */
     void (*make)(struct workload *workload);
     struct bytes book, mask;
+    struct fekhvina_block list[MOST]; /* the mask's blocks */
+    size_t blocks;
 };
 
 extern struct workload workloads[WORKLOADS];
