@@ -67,7 +67,7 @@ struct fekhvina_block {
  * Refusals, in order: 1 to 6 (the book), 4 (more than 1,024 blocks), 7 (a lower above its upper), 8 (uppers that sum to more
  * than 1,024), 9 (a set with a letter that the book lacks), 10 (the answer buffer is shorter than the answer).
  * Touches: as narrow; of the list nothing. A list of no blocks may be a null pointer; others are aligned as the struct is.
- * Cost: as narrow, and copying the list. Stack: under 60 kB.
+ * Cost: as narrow, and copying the list. Stack: under 68 kB.
  */
 
 /* The refusal number, 0 for none. */

@@ -505,7 +505,7 @@ static void stack_of(const char *name)
     size_t narrow = stack_used(one_narrow), list = stack_used(one_list), place = stack_used(one_place);
     printf("stack, %s: narrow %zu bytes, from a list %zu bytes, place %zu bytes\n", name, narrow, list, place);
     count("narrow, stack under 43 kB", name, narrow < 43000);
-    count("narrow, list, stack under 60 kB", name, list < 60000);
+    count("narrow, list, stack under 68 kB", name, list < 68000);
     count("place, stack under 43 kB", name, place < 43000);
 }
 
