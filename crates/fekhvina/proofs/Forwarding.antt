@@ -19,7 +19,6 @@ use contract.Running.{GhostRules, Running, givenOf, tables, tablesOf}
 use types.Kit.{Given, raw, _$_, _∵_, !, qed, move, keep, use2, join, fjoin, suffices, done}
 use types.Run.{look, init, stop, hop, fld, from, addr, and-then, no-more, land, returns, enter, alloc1, alloc0, params1, pass1, pass0, free0}
 use types.Part.{agg, whole, sub, look-in}
-use sound.WpLaws.{WpFn-mono}
 use denote.Memory.{pointee}
 use denote.Plain.{uint-lawful}
 use denote.Builtin.{u8, u32}
@@ -33,13 +32,13 @@ use denote.Triple.Bound.{Bound}
 use denote.Triple.Statement.{Contract, Triple}
 use denote.Triple.Clauses.{Clauses, Ended, closing}
 use denote.Triple.Spec.{Meets}
-use denote.Triple.Table.{entered, cited}
-use denote.Triple.Walked.{Stays, Walks, says, ends-at, walked, walk-meets}
+use denote.Triple.Table.{cited}
+use denote.Triple.Walked.{Walks, says, ends-at, walked}
 use Rattle.model.proofs.Block as B
 use Rattle.operations.specs.declared.NarrowAnswer.{NarrowAnswer}
 use Rattle.operations.specs.Pair.{fromList}
 use Rattle.operations.specs.Narrow.{narrowed, Narrows}
-use Rattle.operations.proofs.Walking.{slice-typed, held, part, sets, frees-held, handed, goes, triple, calls}
+use Rattle.operations.proofs.Walking.{slice-typed, held, part, sets, frees-held, handed, triple, calls, meant, meets}
 use Rattle.operations.proofs.NarrowAnswer as R
 use Rattle.operations.proofs.NarrowAnswer.Laws as R′
 use Rattle.operations.proofs.narrow_list as list
@@ -91,10 +90,6 @@ module _ {M : Type 1} (𝓤 : URA M) (number : NarrowAnswer → ℕ) where
   abbrev gives : Clauses 𝓤 giver
   gives κs (answer, _) = record { ghost = Unit {0}; requires = λ _. emp 𝓤; ensures = λ _ r _. fact 𝓤 (r ≡ number answer) }
 
--- an entry's parameters are handed on for good
-abbrev stayed : Stays (entry .signature .params) (entry .kept)
-stayed = handed (entry .signature .params) (entry .kept)
-
 module _ {M : Type 1} (𝓤 : URA M) (H : Heap 𝓤) (A : Atoms 𝓤) (mem : Memory → SProp 𝓤) (run : Routine → Fun 𝓤) where
   -- the contracts of the two functions that an entry calls
   abbrev Listed : Contract 𝓤
@@ -106,8 +101,8 @@ module _ {M : Type 1} (𝓤 : URA M) (H : Heap 𝓤) (A : Atoms 𝓤) (mem : Mem
   module _ (W : Given 𝓤 H A) (𝓣 : Tables 𝓤 H) (number : NarrowAnswer → ℕ) (second : Name)
       (listed : Triple 𝓤 (𝓣 .C list-def.name) Listed) (given : Triple 𝓤 (𝓣 .C second) (Giver number)) where
     -- the walk, where both functions meet their contracts
-    walks : Walks 𝓤 H A entry stayed (WpFn 𝓤 H (𝓣 .C) (𝓣 .Λ) (forwarding second)) (answers 𝓤 number)
-    walks = walked 𝓤 H A entry stayed (answers 𝓤 number) (WpFn 𝓤 H (𝓣 .C) (𝓣 .Λ) (forwarding second))
+    walks : Walks 𝓤 H A entry (handed entry) (WpFn 𝓤 H (𝓣 .C) (𝓣 .Λ) (forwarding second)) (answers 𝓤 number)
+    walks = walked 𝓤 H A entry (handed entry) (answers 𝓤 number) (WpFn 𝓤 H (𝓣 .C) (𝓣 .Λ) (forwarding second))
         (λ κs. (slice-vals, (slice-vals, (slice-vals, tt))))
         (λ κs. (shr-slice-tells (named 0) (κs .0) u8, (shr-slice-tells (named 1) (κs .1 .0) B.the-row, (mut-slice-tells (named 2) (κs .1 .1 .0) u8, tt))))
         (λ κs qs bounds (book, (blocks, (out, _))) g (book-is, (blocks-is, (out-is, _))).
@@ -132,7 +127,7 @@ module _ {M : Type 1} (𝓤 : URA M) (H : Heap 𝓤) (A : Atoms 𝓤) (mem : Mem
         returns ! (look ! 17 refl) $ keep ! (17 ∷ 18 ∷ 15 ∷ 16 ∷ 13 ∷ 14 ∷ 11 ∷ 12 ∷ 9 ∷ 10 ∷ 7 ∷ 8 ∷ 5 ∷ 6 ∷ 3 ∷ 4 ∷ 0 ∷ []) $
         frees-held ! $ frees-held ! $ frees-held ! $ frees-held ! $ frees-held ! $ frees-held ! $ frees-held ! $ free0 ! $
         -- [the tokens; the last values; the number]
-        suffices ! _ (ends-at 𝓤 H A entry stayed (answers 𝓤 number) W (to, g) v n ws (tt, (tt, (tt, tt)))) $
+        suffices ! _ (ends-at 𝓤 H A entry (handed entry) (answers 𝓤 number) W (to, g) v n ws (tt, (tt, (tt, tt)))) $
         says ! (number-of number (Narrows _ _ _) r _ n (promised .answer) promised is-number) $ done !))))))))))))
 
 module _ {M : Type 1} (𝓤 : URA M) (H : Heap 𝓤) (𝓜 : Model 𝓤 H) (𝓖 : GhostRules 𝓤 H) (𝓡 : Running 𝓤 H 𝓜) where
@@ -141,12 +136,7 @@ module _ {M : Type 1} (𝓤 : URA M) (H : Heap 𝓤) (𝓜 : Model 𝓤 H) (𝓖
       → γ list-def.name ≡ list-def.routine → (r : Routine) → γ second ≡ r → Meets 𝓤 H (𝓖 .A) (giver .signature) (𝓡 .run r) (closing 𝓤 H (𝓖 .A) giver (gives 𝓤 number))
       → Meets 𝓤 H (𝓖 .A) (entry .signature) (𝓡 .run (γ name)) (closing 𝓤 H (𝓖 .A) entry (answers 𝓤 number))
   unfolding tablesOf
-  forwards number name second γ closed calls r calls₂ met =
-      let W : Given 𝓤 H (𝓖 .A) = givenOf 𝓤 H 𝓜 𝓖 in
-      let 𝓣 : Tables 𝓤 H = tablesOf 𝓤 H 𝓜 (tables 𝓤 H 𝓜 𝓡 γ) in
-      entered 𝓤 H (triple 𝓤 H (𝓖 .A) entry (answers 𝓤 number)) (𝓣 .C) (𝓣 .Λ) name (forwarding second) closed
-      (walk-meets 𝓤 H (𝓖 .A) entry stayed W (goes 𝓤 H (𝓖 .A) W (entry .signature .params) (entry .kept)) (answers 𝓤 number)
-      (WpFn 𝓤 H (𝓣 .C) (𝓣 .Λ) (forwarding second)) (WpFn-mono 𝓤 H (W .laws) 𝓣 (forwarding second))
-      (walks 𝓤 H (𝓖 .A) (𝓜 .mem) (𝓡 .run) W 𝓣 number second
+  forwards number name second γ closed calls r calls₂ met = meets 𝓤 H 𝓜 𝓖 𝓡 γ entry (answers 𝓤 number) name (forwarding second) closed
+      (walks 𝓤 H (𝓖 .A) (𝓜 .mem) (𝓡 .run) (givenOf 𝓤 H 𝓜 𝓖) (meant 𝓤 H 𝓜 𝓖 𝓡 γ) number second
       (cited 𝓤 H (Listed 𝓤 H (𝓖 .A) (𝓜 .mem) (𝓡 .run)) 𝓜 𝓡 γ list-def.name list-def.routine calls (list-thm.met 𝓤 H 𝓜 𝓖 𝓡))
-      (cited 𝓤 H (Giver 𝓤 H (𝓖 .A) (𝓜 .mem) (𝓡 .run) number) 𝓜 𝓡 γ second r calls₂ met)))
+      (cited 𝓤 H (Giver 𝓤 H (𝓖 .A) (𝓜 .mem) (𝓡 .run) number) 𝓜 𝓡 γ second r calls₂ met))
