@@ -17,7 +17,7 @@ use prog.Wp.{Heap, Closed, Tables, WpFn}
 use ghost.Atoms.{Atoms}
 use contract.Monad.{Fun, fact}
 use contract.Running.{GhostRules, Running, givenOf, tables, tablesOf}
-use types.Kit.{Given, raw, _$_, _∵_, !, qed, move, keep, use2, join, fjoin, suffices, done}
+use types.Kit.{Given, raw, _$_, _∵_, !, qed, move, keep, join, group, suffices, done}
 use types.Run.{look, init, stop, hop, fld, from, addr, and-then, no-more, land, returns, enter, alloc1, alloc0, params1, pass1, pass0, free0}
 use types.Part.{agg, whole, sub, look-in}
 use denote.Memory.{pointee}
@@ -92,15 +92,12 @@ module _ {M : Type 1} (𝓤 : URA M) (number : NarrowAnswer → ℕ) where
   gives κs (answer, _) = record { ghost = Unit {0}; requires = λ _. emp 𝓤; ensures = λ _ r _. fact 𝓤 (r ≡ number answer) }
 
 module _ {M : Type 1} (𝓤 : URA M) (H : Heap 𝓤) (A : Atoms 𝓤) (mem : Memory → SProp 𝓤) (run : Routine → Fun 𝓤) where
-  -- the contracts of the two functions that an entry calls
+  -- the contract of `narrow_list`
   abbrev Listed : Contract 𝓤
   Listed = triple 𝓤 H A list.ended (list.clauses 𝓤 H A mem run)
 
-  abbrev Giver : (NarrowAnswer → ℕ) → Contract 𝓤
-  Giver number = triple 𝓤 H A giver (gives 𝓤 number)
-
   module _ (W : Given 𝓤 H A) (𝓣 : Tables 𝓤 H) (number : NarrowAnswer → ℕ) (second : Name)
-      (listed : Triple 𝓤 (𝓣 .C list-def.name) Listed) (given : Triple 𝓤 (𝓣 .C second) (Giver number)) where
+      (listed : Triple 𝓤 (𝓣 .C list-def.name) Listed) (given : Triple 𝓤 (𝓣 .C second) (triple 𝓤 H A giver (gives 𝓤 number))) where
     -- the walk, where both functions meet their contracts
     walks : Walks 𝓤 H A entry (handed entry) (WpFn 𝓤 H (𝓣 .C) (𝓣 .Λ) (forwarding second)) (answers 𝓤 number)
     walks = walked 𝓤 H A entry (handed entry) (answers 𝓤 number) (WpFn 𝓤 H (𝓣 .C) (𝓣 .Λ) (forwarding second))
@@ -115,15 +112,13 @@ module _ {M : Type 1} (𝓤 : URA M) (H : Heap 𝓤) (A : Atoms 𝓤) (mem : Mem
         -- [room for _6; …; room for _5; …; room for _4; …; _3; …; _2; …; _1; …; room for _0; …; what `narrow_list` asks]
         sets ! 2 refl (addr ! (from ! (fld ! refl (hop ! (look-in ! 6 (sub ! 0 refl (whole !))) (stop !))))) (tt, tt) $
         sets ! 0 refl (agg ! (and-then ! (held ! 2 refl) (and-then ! (part ! 6 refl (sub ! 1 refl (whole !))) (no-more !)))) (slice-typed (out-is .0 .1 .0)) $
-        move ! (14 ∷ []) $ calls ! 𝓣 list.ended (list.clauses 𝓤 H A mem run) listed to g (EL.lawful R.the-type R′.the-laws 𝓤 H A W tt)
+        move ! (14 ∷ []) $ calls ! 𝓣 list.ended (list.clauses 𝓤 H A mem run) listed to g (EL.lawful R.the-type R′.the-laws 𝓤 H A W tt) (id⊢ 𝓤 _)
         (and-then ! (held ! 11 refl) (and-then ! (held ! 9 refl) (and-then ! (held ! 1 refl) (no-more !)))) (λ u r ws typed. heard ! _ (λ promised.
         -- [the answer; the tokens; the last values; _6; …; _5; …; room for _4; …; _3; …; _2; …; _1; …; room for _0; …]
         land ! (from ! (stop !)) (init ! 7 refl (typed .0)) $
-        nothing ! $ move ! (1 ∷ 0 ∷ []) $ fjoin ! $ nothing ! $ join ! $ nothing ! $ move ! (1 ∷ 0 ∷ []) $
-        let asked : Bound 𝓤 H A (giver .signature) = (tt, tt, tt, (r, tt), (u ∷ [], tt)) in
-        use2 W (raw (Giver number .pre (asked, tt))) (id⊢ 𝓤 _) $
-        calls ! 𝓣 giver (gives 𝓤 number) given asked tt (uint-lawful 𝓤 H A W w32) (and-then ! (held ! 7 refl) (no-more !))
-        (λ v n _ typed. heard ! _ (λ is-number.
+        nothing ! $ nothing ! $ nothing ! $ move ! (0 ∷ 3 ∷ 1 ∷ 2 ∷ []) $ group ! 3 $ join ! $
+        calls ! 𝓣 giver (gives 𝓤 number) given (tt, tt, tt, (r, tt), (u ∷ [], tt)) tt (uint-lawful 𝓤 H A W w32) (id⊢ 𝓤 _)
+        (and-then ! (held ! 7 refl) (no-more !)) (λ v n _ typed. heard ! _ (λ is-number.
         -- [the number; …; …; the tokens; the last values; _6; …; _5; …; _4; …; _3; …; _2; …; _1; …; room for _0; …]
         land ! (from ! (stop !)) (init ! 17 refl (typed .0)) $
         returns ! (look ! 17 refl) $ keep ! (17 ∷ 18 ∷ 15 ∷ 16 ∷ 13 ∷ 14 ∷ 11 ∷ 12 ∷ 9 ∷ 10 ∷ 7 ∷ 8 ∷ 5 ∷ 6 ∷ 3 ∷ 4 ∷ 0 ∷ []) $
@@ -141,5 +136,5 @@ module _ {M : Type 1} (𝓤 : URA M) (H : Heap 𝓤) (𝓜 : Model 𝓤 H) (𝓖
   unfolding tablesOf
   forwards number name second γ closed calls r calls₂ met = meets 𝓤 H 𝓜 𝓖 𝓡 γ entry (answers 𝓤 number) name (forwarding second) closed
       (walks 𝓤 H (𝓖 .A) (𝓜 .mem) (𝓡 .run) (givenOf 𝓤 H 𝓜 𝓖) (meant 𝓤 H 𝓜 𝓖 𝓡 γ) number second
-      (cited 𝓤 H (Listed 𝓤 H (𝓖 .A) (𝓜 .mem) (𝓡 .run)) 𝓜 𝓡 γ list-def.name list-def.routine calls (list-thm.met 𝓤 H 𝓜 𝓖 𝓡))
-      (cited 𝓤 H (Giver 𝓤 H (𝓖 .A) (𝓜 .mem) (𝓡 .run) number) 𝓜 𝓡 γ second r calls₂ met))
+      (cited 𝓤 H _ 𝓜 𝓡 γ list-def.name list-def.routine calls (list-thm.met 𝓤 H 𝓜 𝓖 𝓡))
+      (cited 𝓤 H _ 𝓜 𝓡 γ second r calls₂ met))

@@ -21,7 +21,7 @@ use prog.Routine.{Env as Names}
 use prog.Wp.{Heap, Out, Env, Calls, Closed, Loops, Tables, Wp, WpFn, spotOf, afterTurn}
 use ghost.Atoms.{Atoms}
 use contract.Running.{GhostRules, Running, givenOf, tables, tablesOf}
-use types.Kit.{Given, Item, ‵, raw, _⊛_, some, later, nth, put, Post, Goal, runs, lands, frees, Seq, Step, step, _$_}
+use types.Kit.{Given, Item, ‵, raw, _⊛_, some, later, mean, nth, put, Post, Goal, runs, lands, frees, Seq, Step, step, _$_}
 use types.Kit.{move, use1, use2, drop, split, pick, fsplit, fjoin, feqI, await}
 use types.Run.{Opd, Opds, Rv, Finds, look, init, forget, stop, fld, from, load, assigns, free1}
 use types.Part.{Part, rep, look-in}
@@ -38,7 +38,7 @@ use denote.Signature.{Slot, typeAt}
 use denote.Steps.{peeks}
 use denote.Exit.{left}
 use denote.Triple.Bound.{Bound, passed}
-use denote.Triple.Call.{calls-at}
+use denote.Triple.Call.{calls-from}
 use denote.Triple.Clauses.{Clauses, Ended, Lasts, lasts, atExit, closing}
 use denote.Triple.End.{Kepts}
 use denote.Triple.Entry.{Res, alive}
@@ -90,7 +90,8 @@ repeated R n l x u Γ = empty (arrayTy R n) l ∷ ‵ (arrayOwn R n (replicate n
 module _ {M : Type 1} {𝓤 : URA M} {H : Heap 𝓤} {A : Atoms 𝓤} {K : Type 0} {W : Given 𝓤 H A} {Γ : List (Item 𝓤)} where
   module _ {E : Env 𝓤 H} where
     -- local i is read whole: entry n of the context is its cell
-    pub held : K → (n : ℕ) {i : ℕ} {s : Share} {v : Val} → nth 𝓤 H A n Γ ≡ ‵ (fat s (spotOf 𝓤 H E i .0) (spotOf 𝓤 H E i .1) 0 v) → Opd K W Γ E (copy (place i [])) v
+    pub held : K → (n : ℕ) {i : ℕ} {s : Share} {v : Val} → nth 𝓤 H A n Γ ≡ ‵ (fat s (spotOf 𝓤 H E i .0) (spotOf 𝓤 H E i .1) 0 v)
+        → Opd K W Γ E (copy (place i [])) v
     held t n e = load t (from t (stop t)) (look t n e)
 
     -- a field of local i is read: entry n has it
@@ -115,22 +116,26 @@ module _ {M : Type 1} {𝓤 : URA M} {H : Heap 𝓤} {A : Atoms 𝓤} {K : Type 
   -- what an array owns tells that its machine value is of its type
   told : K → {G : Goal 𝓤 H} (R : RattleType) → Lawful 𝓤 H A R → (n : ℕ) (xs : List (R .Denot)) (v : Val)
       → (T (hasTy (arrayTy R n) v) × WT v → Seq K W (‵ (arrayOwn R n xs v) ∷ Γ) G) → Seq K W (‵ (arrayOwn R n xs v) ∷ Γ) G
-  told t R lawful n xs v k = peeks t (Array R n) (Is (Array R n)) (shows 𝓤 H A (Array R n)) xs (v ∷ []) (λ is. k (array-lawful 𝓤 H A W R lawful n .typed xs (v ∷ []) is .0))
+  told t R lawful n xs v k =
+      peeks t (Array R n) (Is (Array R n)) (shows 𝓤 H A (Array R n)) xs (v ∷ []) (λ is. k (array-lawful 𝓤 H A W R lawful n .typed xs (v ∷ []) is .0))
 
 module _ {M : Type 1} {𝓤 : URA M} {H : Heap 𝓤} {A : Atoms 𝓤} {K : Type 0} {W : Given 𝓤 H A} {Γ : List (Item 𝓤)}
     (t : K) (R : RattleType) (lawful : Lawful 𝓤 H A R) (n l : ℕ) where
   -- a row of n elements in the local l is one value
   pub lifted : {G : Goal 𝓤 H} (xs : List (R .Denot)) → length xs ≡ n
-      → ((v : Val) → T (hasTy (arrayTy R n) v) × WT v → Seq K W (‵ (arrayOwn R n xs v) ∷ has (arrayTy R n) l v ∷ Γ) G) → Seq K W (‵ (row R fullShare xs l 0) ∷ Γ) G
+      → ((v : Val) → T (hasTy (arrayTy R n) v) × WT v → Seq K W (‵ (arrayOwn R n xs v) ∷ has (arrayTy R n) l v ∷ Γ) G)
+      → Seq K W (‵ (row R fullShare xs l 0) ∷ Γ) G
   lifted xs e k =
       feqI t ℕ (length xs) n e $ fjoin t $ use1 W (‵ (partAt (Array R n) fullShare xs l 0)) (array-whole 𝓤 H A W R fullShare n xs l 0) $
       use1 W (some (λ (v : Val). has (arrayTy R n) l v ⊛ ‵ (arrayOwn R n xs v))) (part-out 𝓤 H A W (Array R n) refl fullShare xs l 0) $
       pick t (λ v. split t $ move t (1 ∷ []) $ told t R lawful n xs v (k v))
 
   -- the local l is assigned n times the value of an operand, and that is a row of n elements
-  pub repeats : Copy 𝓤 H A R → Single (R .mir) → (x : R .Denot) {E : Env 𝓤 H} {C : Calls 𝓤 H} {Λ : Loops 𝓤 H} {q : Post 𝓤 H} {p : Place} {y : Operand} {rest : Body} {u : Val}
+  pub repeats : Copy 𝓤 H A R → Single (R .mir) → (x : R .Denot)
+      {E : Env 𝓤 H} {C : Calls 𝓤 H} {Λ : Loops 𝓤 H} {q : Post 𝓤 H} {p : Place} {y : Operand} {rest : Body} {u : Val}
       → Opd K W (repeated R n l x u Γ) E y u → Finds K W (repeated R n l x u Γ) E p (arrayTy R n, l, 0)
-      → Step K W (‵ (row R fullShare (replicate n x) l 0) ∷ Γ) (runs C Λ E rest q) (empty (arrayTy R n) l ∷ ‵ (R .own x (u ∷ [])) ∷ Γ) (runs C Λ E (seq (assign p (repeat y n)) rest) q)
+      → Step K W (‵ (row R fullShare (replicate n x) l 0) ∷ Γ) (runs C Λ E rest q)
+      (empty (arrayTy R n) l ∷ ‵ (R .own x (u ∷ [])) ∷ Γ) (runs C Λ E (seq (assign p (repeat y n)) rest) q)
   repeats copies one x {u = u} y at = step (λ s.
       let xs : List (R .Denot) = replicate n x in
       let v : Val = arrayVal (replicate n u) in
@@ -164,15 +169,16 @@ module _ {M : Type 1} (𝓤 : URA M) (H : Heap 𝓤) (A : Atoms 𝓤) (T : Ended
     answer v r ws Γ = raw (c (x .0) (x .3) .ensures g r (atExit T (x .0) (x .3) ws)) ∷ ‵ (typeAt (T .signature .result) (x .0) .own r (v ∷ []))
         ∷ raw (alive 𝓤 H A (T .signature) (x .0) (x .1)) ∷ ‵ (lasts T (x .0) (x .3) ws) ∷ Γ
 
--- a call of a function that meets its contract, where what it asks comes first
+-- a call of a function that meets its contract, where what comes first gives what it asks
 pub calls : {M : Type 1} {𝓤 : URA M} {H : Heap 𝓤} {A : Atoms 𝓤} {K : Type 0} {W : Given 𝓤 H A} {Γ : List (Item 𝓤)} {E : Env 𝓤 H} {q : Post 𝓤 H}
-    {f : Name} {ys : List Operand} {d : Place} {rest : Body} → K → (𝓣 : Tables 𝓤 H) (T : Ended) (c : Clauses 𝓤 T) → Triple 𝓤 (𝓣 .C f) (triple 𝓤 H A T c)
+    {f : Name} {ys : List Operand} {d : Place} {rest : Body} {i : Item 𝓤} → K → (𝓣 : Tables 𝓤 H) (T : Ended) (c : Clauses 𝓤 T) → Triple 𝓤 (𝓣 .C f) (triple 𝓤 H A T c)
     → (x : Bound 𝓤 H A (T .signature)) (g : c (x .0) (x .3) .ghost) → Lawful 𝓤 H A (typeAt (T .signature .result) (x .0))
-    → Opds K W (raw (triple 𝓤 H A T c .pre (x, g)) ∷ Γ) E ys (passed 𝓤 H A (T .signature) x)
+    → ent 𝓤 (mean 𝓤 H A i) (triple 𝓤 H A T c .pre (x, g)) → Opds K W (i ∷ Γ) E ys (passed 𝓤 H A (T .signature) x)
     → ((v : Val) (r : Res (T .signature) (x .0)) (ws : Lasts T (x .0) (x .3)) → Typed (typeAt (T .signature .result) (x .0) .mir) (v ∷ [])
     → Seq K W (answer 𝓤 H A T c x g v r ws Γ) (lands (𝓣 .C) (𝓣 .Λ) E d v rest q))
-    → Seq K W (raw (triple 𝓤 H A T c .pre (x, g)) ∷ Γ) (runs (𝓣 .C) (𝓣 .Λ) E (seq (call f ys d) rest) q)
-calls {𝓤 = 𝓤} {H = H} {A = A} {W = W} t 𝓣 T c met x g lawful os k = calls-at t (fmOf 𝓤 H (W .laws) 𝓣) (triple 𝓤 H A T c) met (x, g) os (λ v.
+    → Seq K W (i ∷ Γ) (runs (𝓣 .C) (𝓣 .Λ) E (seq (call f ys d) rest) q)
+calls {𝓤 = 𝓤} {H = H} {A = A} {W = W} {i = i} t 𝓣 T c met x g lawful asked os k =
+    calls-from t (fmOf 𝓤 H (W .laws) 𝓣) i (passed 𝓤 H A (T .signature) x) (triple 𝓤 H A T c .post (x, g)) (via 𝓤 _ asked (met (x, g))) os (λ v.
     let R : RattleType = typeAt (T .signature .result) (x .0) in
     use1 W (later (some (λ (r : R .Denot). (raw (alive 𝓤 H A (T .signature) (x .0) (x .1)) ⊛ ‵ (R .own r (v ∷ [])))
     ⊛ some (λ (ws : Lasts T (x .0) (x .3)). ‵ (lasts T (x .0) (x .3) ws) ⊛ raw (c (x .0) (x .3) .ensures g r (atExit T (x .0) (x .3) ws)))))) (id⊢ 𝓤 _) $

@@ -26,7 +26,7 @@ use contract.Monad.{Fun}
 use contract.Running.{givenOf, tablesOf}
 use types.Kit as Kit
 use types.Kit.{Given, Item, ‵, raw, _⊛_, ⋆, Goal, prop, runs, anyQ, Sq, Step, step, Go, _$_, _∵_, !, qed}
-use types.Kit.{by, move, keep, drop, use1, use2, split, join, group, rewrite, fsplit, suffices, done}
+use types.Kit.{by, move, keep, drop, use1, split, join, group, rewrite, fsplit, suffices, done}
 use types.Run.{look, look-raw, store, store-raw, init, forget, stop, hop, fld, from, load, lit, of-opd, and-then, no-more, bin, addr}
 use types.Run.{assigns, assigns-last, land, returns, first, blocks as in-block, branches, skips, stays, leaves-loop, exec}
 use types.Run.{enter, alloc1, alloc0, params1, pass1, pass0, free1, free0}
@@ -202,13 +202,11 @@ module _ {M : Type 1} (𝓤 : URA M) (H : Heap 𝓤) (A : Atoms 𝓤) (W : Given
         (λ i X small go. turn Γ Q X i small go .prf) (λ X. leaves Γ Q X (k .prf) .prf)))
 
   -- ---- the whole walk, where `narrow_table` meets its contract
-  module _ (mem : Memory → SProp 𝓤) (run : Routine → Fun 𝓤) where
-    -- the two contracts
-    abbrev Listed : Contract 𝓤
-    Listed = walkOf 𝓤 H A narrow-list.ended (handed narrow-list.ended) (narrow-list.clauses 𝓤 H A mem run)
-
-    abbrev Tabled : Contract 𝓤
-    Tabled = triple 𝓤 H A narrow-table.ended (narrow-table.clauses 𝓤 H A mem run)
+  module _ (mem : Memory → SProp 𝓤) (run : Routine → Fun 𝓤)
+      (known : Triple 𝓤 (𝓣 .C #narrow-table) (triple 𝓤 H A narrow-table.ended (narrow-table.clauses 𝓤 H A mem run))) where
+    -- the triple in which the walk ends
+    abbrev Walked : Contract 𝓤
+    Walked = walkOf 𝓤 H A narrow-list.ended (handed narrow-list.ended) (narrow-list.clauses 𝓤 H A mem run)
 
     module _ (κ₀ κ₁ κ₂ : Lft) (q₀ q₁ q₂ : Share) (book : RefT (List ℕ)) (b o : ℕ) (γ : GName) (xs : List Block) (out : RefT (List ℕ)) where
       -- the list, as it was passed
@@ -220,7 +218,7 @@ module _ {M : Type 1} (𝓤 : URA M) (H : Heap 𝓤) (A : Atoms 𝓤) (W : Given
       table = filled blank 1024 1024 xs
 
       -- what is bound at entry, and what is bound at the call, where v is the table's machine value
-      abbrev at : Listed .Ghost
+      abbrev at : Walked .Ghost
       at = (((κ₀, (κ₁, (κ₂, tt))), (q₀, (q₁, (q₂, tt))), tt, (book, (blocks, (out, tt))), (slice-vals book, (slice-vals blocks, (slice-vals out, tt)))), tt)
 
       abbrev to : Val → Bound 𝓤 H A narrow-table.signature
@@ -232,9 +230,9 @@ module _ {M : Type 1} (𝓤 : URA M) (H : Heap 𝓤) (A : Atoms 𝓤) (W : Given
           ⊛ ‵ (owns (typesAt (narrow-list.signature .params) (at .0 .0)) (at .0 .3) (at .0 .4))) ∷ ‵ ftrue ∷ []
 
       -- the MIR, from its entry to its exit
-      walk : Room u8 (length (book .now)) → Room Blk (length xs) → Room u8 (length (out .now)) → Triple 𝓤 (𝓣 .C #narrow-table) Tabled
-          → ent 𝓤 (⋆ 𝓤 H A Entry) (WpFn 𝓤 H (𝓣 .C) (𝓣 .Λ) code.function (Listed .args at) (Listed .post at))
-      walk few₀ few₁ few₂ known =
+      walk : Room u8 (length (book .now)) → Room Blk (length xs) → Room u8 (length (out .now))
+          → ent 𝓤 (⋆ 𝓤 H A Entry) (WpFn 𝓤 H (𝓣 .C) (𝓣 .Λ) code.function (Walked .args at) (Walked .post at))
+      walk few₀ few₁ few₂ =
           qed W Entry ∵ split ! $ split ! $ move ! (1 ∷ []) $ split ! $ move ! (2 ∷ 1 ∷ []) $ join ! $
           -- [the tokens of book and out; the token of blocks; what the three own; nothing]
           move ! (2 ∷ []) $ fsplit ! $ move ! (1 ∷ []) $ fsplit ! $ fsplit ! $ drop ! $ fsplit ! $ drop ! $
@@ -264,8 +262,8 @@ module _ {M : Type 1} (𝓤 : URA M) (H : Heap 𝓤) (A : Atoms 𝓤) (W : Given
           sets ! 16 refl (addr ! (from ! (fld ! refl (hop ! (look-in ! 32 (sub ! 0 refl (whole !))) (stop !))))) (tt, tt) $
           sets ! 14 refl (agg ! (and-then ! (held ! 16 refl) (and-then ! (part ! 32 refl (sub ! 1 refl (whole !))) (no-more !)))) (slice-typed (few₂ .0)) $
           owned ! usize (Is usize) (uint-makes 𝓤 H A W w64) (length xs) _ (refl, few₁ .0) $
-          move ! (42 ∷ 41 ∷ 2 ∷ 0 ∷ 40 ∷ 43 ∷ []) $ group ! 5 $ use2 W (raw (Tabled .pre (to v, tt))) (id⊢ 𝓤 _) $
-          calls ! 𝓣 narrow-table.ended (narrow-table.clauses 𝓤 H A mem run) known (to v) tt (EL.lawful S.the-type S′.the-laws 𝓤 H A W tt)
+          move ! (42 ∷ 41 ∷ 2 ∷ 0 ∷ 40 ∷ 43 ∷ []) $ group ! 5 $ join ! $
+          calls ! 𝓣 narrow-table.ended (narrow-table.clauses 𝓤 H A mem run) known (to v) tt (EL.lawful S.the-type S′.the-laws 𝓤 H A W tt) (id⊢ 𝓤 _)
           (and-then ! (held ! 35 refl) (and-then ! (held ! 18 refl) (and-then ! (held ! 12 refl) (and-then ! (held ! 14 refl) (no-more !)))))
           (λ u r ws typed. heard ! _ (λ said.
           -- [the result; two tokens; the last values; the token of blocks; _5; and on as before the call, up to _0; …]
@@ -283,13 +281,13 @@ module _ {M : Type 1} (𝓤 : URA M) (H : Heap 𝓤) (A : Atoms 𝓤) (W : Given
           suffices ! _ (ends-at 𝓤 H A narrow-list.ended (handed narrow-list.ended) (narrow-list.clauses 𝓤 H A mem run) W at u r (ws .1) (tt, (tt, (tt, tt)))) $
           says ! (said xs refl (filled-all blank 1024 xs)) $ done !))))))))))))))))))))))
 
-    -- so the MIR meets the triple in which a walk ends
-    walks : Triple 𝓤 (𝓣 .C #narrow-table) Tabled → Triple 𝓤 (WpFn 𝓤 H (𝓣 .C) (𝓣 .Λ) code.function) Listed
-    walks known = walked 𝓤 H A narrow-list.ended (handed narrow-list.ended) (narrow-list.clauses 𝓤 H A mem run) (WpFn 𝓤 H (𝓣 .C) (𝓣 .Λ) code.function)
+    -- so the MIR meets that triple
+    walks : Triple 𝓤 (WpFn 𝓤 H (𝓣 .C) (𝓣 .Λ) code.function) Walked
+    walks = walked 𝓤 H A narrow-list.ended (handed narrow-list.ended) (narrow-list.clauses 𝓤 H A mem run) (WpFn 𝓤 H (𝓣 .C) (𝓣 .Λ) code.function)
         (λ κs. (slice-vals, (slice-vals, (slice-vals, tt))))
         (λ κs. (shr-slice-tells (named 0) (κs .0) u8, (shr-slice-tells (named 1) (κs .1 .0) Blk, (mut-slice-tells (named 2) (κs .1 .1 .0) u8, tt))))
         (λ (κ₀, (κ₁, (κ₂, _))) (q₀, (q₁, (q₂, _))) _ (book, (blocks, (out, _))) _ (book-is, (blocks-is, (out-is, _))).
-        walk κ₀ κ₁ κ₂ q₀ q₁ q₂ book (blocks .ptr .0) (blocks .ptr .1) (blocks .name) (blocks .now) out (book-is .0 .1) (blocks-is .0 .1) (out-is .0 .1) known)
+        walk κ₀ κ₁ κ₂ q₀ q₁ q₂ book (blocks .ptr .0) (blocks .ptr .1) (blocks .name) (blocks .now) out (book-is .0 .1) (blocks-is .0 .1) (out-is .0 .1))
 
 -- so the function meets its contract
 pub narrow-list-spec : {M : Type 1} → stated.statement M
@@ -297,5 +295,4 @@ unfolding code.routine tablesOf
 narrow-list-spec 𝓤 H 𝓜 𝓖 𝓡 =
     meets 𝓤 H 𝓜 𝓖 𝓡 code.env narrow-list.ended (narrow-list.clauses 𝓤 H (𝓖 .A) (𝓜 .mem) (𝓡 .run)) #narrow-list code.function (code.unfolded 𝓤 H 𝓜 𝓡)
     (walks 𝓤 H (𝓖 .A) (givenOf 𝓤 H 𝓜 𝓖) (meant 𝓤 H 𝓜 𝓖 𝓡 code.env) (𝓜 .mem) (𝓡 .run)
-    (cited 𝓤 H (Tabled 𝓤 H (𝓖 .A) (givenOf 𝓤 H 𝓜 𝓖) (meant 𝓤 H 𝓜 𝓖 𝓡 code.env) (𝓜 .mem) (𝓡 .run)) 𝓜 𝓡 code.env
-    #narrow-table narrow-table-def.routine code.calls-operations·listed·narrow-table (narrow-table-thm.met 𝓤 H 𝓜 𝓖 𝓡)))
+    (cited 𝓤 H _ 𝓜 𝓡 code.env #narrow-table narrow-table-def.routine code.calls-operations·listed·narrow-table (narrow-table-thm.met 𝓤 H 𝓜 𝓖 𝓡)))
