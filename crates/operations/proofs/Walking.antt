@@ -171,8 +171,8 @@ module _ {M : Type 1} (𝓤 : URA M) (H : Heap 𝓤) (A : Atoms 𝓤) (T : Ended
 
 -- a call of a function that meets its contract, where what comes first gives what it asks
 pub calls : {M : Type 1} {𝓤 : URA M} {H : Heap 𝓤} {A : Atoms 𝓤} {K : Type 0} {W : Given 𝓤 H A} {Γ : List (Item 𝓤)} {E : Env 𝓤 H} {q : Post 𝓤 H}
-    {f : Name} {ys : List Operand} {d : Place} {rest : Body} {i : Item 𝓤} → K → (𝓣 : Tables 𝓤 H) (T : Ended) (c : Clauses 𝓤 T) → Triple 𝓤 (𝓣 .C f) (triple 𝓤 H A T c)
-    → (x : Bound 𝓤 H A (T .signature)) (g : c (x .0) (x .3) .ghost) → Lawful 𝓤 H A (typeAt (T .signature .result) (x .0))
+    {f : Name} {ys : List Operand} {d : Place} {rest : Body} {i : Item 𝓤} → K → (𝓣 : Tables 𝓤 H) (T : Ended) (c : Clauses 𝓤 T)
+    → Triple 𝓤 (𝓣 .C f) (triple 𝓤 H A T c) → (x : Bound 𝓤 H A (T .signature)) (g : c (x .0) (x .3) .ghost) → Lawful 𝓤 H A (typeAt (T .signature .result) (x .0))
     → ent 𝓤 (mean 𝓤 H A i) (triple 𝓤 H A T c .pre (x, g)) → Opds K W (i ∷ Γ) E ys (passed 𝓤 H A (T .signature) x)
     → ((v : Val) (r : Res (T .signature) (x .0)) (ws : Lasts T (x .0) (x .3)) → Typed (typeAt (T .signature .result) (x .0) .mir) (v ∷ [])
     → Seq K W (answer 𝓤 H A T c x g v r ws Γ) (lands (𝓣 .C) (𝓣 .Λ) E d v rest q))
