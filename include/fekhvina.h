@@ -1,5 +1,6 @@
 /*
- * Fekhvina, a mask narrower that is proved right: the operations of document 01 on numbers and byte slices.
+ * Fekhvina, a mask narrower that is proved right: the operations of document 01 on numbers and byte slices, and narrow on a list
+ * of blocks too.
  *
  * Link with target/staticlib/libfekhvina.a, which `make lib` writes once every function in it is proved.
  *

@@ -29,6 +29,7 @@ use Rattle.operations.proofs.Narrowed.{narrow-refused}
 
 -- a list of at most 1,024 blocks, which three slices hold
 module _ (bs b l u : List ℕ) (k : ℕ) (few : k ≤ 1024) where
+  -- the list
   abbrev xs : List Block
   xs = blocksOf b l u k
 
@@ -44,6 +45,7 @@ module _ (bs b l u : List ℕ) (k : ℕ) (few : k ≤ 1024) where
 
   -- accepted
   module _ (p : Pair) (read : readGiven (fromList bs xs) ≡ pairAnswer.Accepted p) where
+    -- by its own checks too
     passed : listRefusal xs ≡ 0
     passed = given-checks (fromList bs xs) (given-accepted (fromList bs xs) p read .0) .1
 

@@ -1,4 +1,4 @@
-// A book and a mask taken together: the checks that three of the operations begin with.
+// A book and a mask taken together: the checks that narrow, place and try begin with.
 ghost use mathlib.Core.Path.{_≡_};
 ghost use Rattle.records.specs.declared.BookOrRefusal.the-variants.{Accepted};
 ghost use Rattle.records.specs.Book.{readBook};
@@ -15,7 +15,7 @@ pub(crate) struct Pair {
     pub mask: Mask,
 }
 
-// What two slices are as a book and a mask.
+// What is lent, as a book and a mask.
 pub(crate) enum PairOrRefusal {
     Accepted(Pair),
     Refused(u32),
@@ -32,7 +32,7 @@ pub(crate) fn read_pair(book: &[u8], mask: &[u8]) -> PairOrRefusal
     with_mask(b, records::read_mask(mask))
 }
 
-// A book that was read, with a mask or its refusal. Check 9.
+// A book that was read, with a mask or its refusal: then check 9.
 pub(crate) fn with_mask(book: Book, got: MaskOrRefusal) -> PairOrRefusal
     ensures { λ r. ⌜ ((g : Given) → readBook (g .book) ≡ Accepted book → got ≡ maskOr (numbersOf (g .blocks)) (g .failing) → r ≡ readGiven g) ⌝ }
 {
