@@ -1,6 +1,6 @@
 /*
- * A C host in brief, with document 01's book A: it tidies a mask, narrows the answer, asks which letters can stand in its first
- * place, and tries a code.
+ * A C host in brief, with document 01's book A: it tidies a mask, narrows the answer, as a record and as a list of blocks, asks
+ * which letters can stand in its first place, and tries a code.
  */
 #include "fekhvina.h"
 
@@ -34,6 +34,17 @@ static void print_record(const char *what, const uint8_t *record, uint32_t bytes
     printf("\n");
 }
 
+/* The tidied mask as blocks in memory, narrowed. Whether it was refused. */
+static int narrow_list(uint8_t *answer, size_t room)
+{
+    const struct fekhvina_block blocks[] = {{.set = 7, .lower = 1, .upper = 3}};
+    if (refused("narrow, list", fekhvina_narrow_list_refusal(book, sizeof book, blocks, 1, answer, room))) {
+        return 1;
+    }
+    print_record("narrow, list", answer, fekhvina_narrow_list_bytes(book, sizeof book, blocks, 1, answer, room));
+    return 0;
+}
+
 int main(void)
 {
     static const char *const verdicts[] = {"", "none", "all", "one", "some"};
@@ -51,7 +62,7 @@ int main(void)
     printf("narrow: %s\n", verdicts[fekhvina_narrow_verdict(book, sizeof book, tidy, len, answer, sizeof answer)]);
     print_record("narrow", answer, fekhvina_narrow_bytes(book, sizeof book, tidy, len, answer, sizeof answer));
 
-    if (refused("place", fekhvina_place_refusal(book, sizeof book, tidy, len, 1, 1))) {
+    if (narrow_list(answer, sizeof answer) || refused("place", fekhvina_place_refusal(book, sizeof book, tidy, len, 1, 1))) {
         return 1;
     }
     uint64_t set = fekhvina_place_set(book, sizeof book, tidy, len, 1, 1);
