@@ -6,6 +6,7 @@ use mathlib.Core.List.{List}
 use native.Mathlib.Omega.{arith}
 use borrow.Author.Tests.{lt-ltb, le-ltb}
 use lib.ListN.{length, take}
+use lib.Seq.{take-all}
 use Rattle.model.specs.declared.Block.{Block}
 use Rattle.records.specs.declared.Book.{Book}
 use Rattle.records.specs.declared.BookOrRefusal.{BookOrRefusal}
@@ -16,7 +17,6 @@ use Rattle.records.specs.Book.{readBook, bookNumber}
 use Rattle.records.specs.Mask.{blocksRefusal, numbersOf, maskOr, readBlocks}
 use Rattle.records.specs.Written.{numbered, blocksOf}
 use Rattle.records.proofs.Checks.{on, off}
-use Rattle.records.proofs.Copies.{take-all}
 use Rattle.records.proofs.Stores.{length-values}
 use Rattle.operations.specs.declared.NarrowAnswer.{NarrowAnswer}
 use Rattle.operations.specs.declared.NarrowAnswer.the-variants.{Refused}

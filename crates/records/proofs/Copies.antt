@@ -1,12 +1,12 @@
 -- Blocks copied into three slices.
 -- Assumes nothing.
-use mathlib.Core.Path.{_≡_, refl, ap, ap₂, _∙_}
+use mathlib.Core.Path.{_≡_, refl, ap₂, _∙_}
 use mathlib.Core.List.{List, [], _∷_}
 use Prim.Native.Nat.{ℕ, zero, suc, _+_, _-_, _≤_, _<_}
 use native.Mathlib.Omega.{arith}
 use borrow.Author.Count.{below-more}
 use lib.ListN.{length, take, set, length-set}
-use lib.Seq.{drop-cons, getD-set-same, getD-set-other}
+use lib.Seq.{take-all, drop-cons, getD-set-same, getD-set-other}
 use Rattle.model.specs.declared.Block.{Block}
 use Rattle.model.specs.DashedString.{blockAt, values}
 use Rattle.records.specs.Mask.{count, maskOf}
@@ -19,13 +19,6 @@ values-are zero xs f l h = refl
 values-are (suc k) [] f l h = absurd (omega arith)
 values-are (suc k) (x ∷ xs) f l h =
     ap₂ _∷_ (h 0 (omega arith)) (values-are k xs (λ j. f (suc j)) (omega arith) (λ j m. h (suc j) (omega arith)))
-
--- the front of a list that is no longer is the list
-pub take-all : (k : ℕ) (xs : List Block) → length xs ≤ k → take k xs ≡ xs
-take-all zero [] h = refl
-take-all zero (x ∷ xs) h = absurd (omega arith)
-take-all (suc k) [] h = refl
-take-all (suc k) (x ∷ xs) h = ap (_∷_ x) (take-all k xs (omega arith))
 
 -- the blocks from entry i on: that entry, and the others
 pub between-cons : (b l u : List ℕ) (i end : ℕ) → i < end → Enough b l u end

@@ -2,7 +2,7 @@
 -- Assumes nothing.
 use mathlib.Core.Path.{_≡_, refl, _∙_, sym}
 use mathlib.Core.Logic.{_⊎_, inl, inr, ⊎-elim}
-use mathlib.Core.Bool.{Bool, true, false, _||_, or-false}
+use mathlib.Core.Bool.{false, _||_, or-false, or-assoc}
 use mathlib.Core.List.{List, [], _∷_}
 use Prim.Native.Nat.{ℕ, _+_, _*_, _-_, _≤_, _<_}
 use native.Mathlib.Nat.{add-zero, add-assoc}
@@ -32,11 +32,6 @@ pub record Taking (xs rest : List Block) (t : Totals) : Type 0 where
 -- all are to come
 pub taking-starts : (xs : List Block) → Taking xs xs (record { crossed = false; uppers = 0; used = 0 })
 taking-starts xs = record { crossed = refl; uppers = omega arith; used = refl }
-
--- one test or another, or a third
-or-assoc : (a b c : Bool) → ((a || b) || c) ≡ (a || (b || c))
-or-assoc true b c = refl
-or-assoc false b c = refl
 
 -- the next is taken
 pub taking-more : (xs rest : List Block) (x : Block) (t : Totals) → Taking xs (x ∷ rest) t → Taking xs rest (withBlock t x)
