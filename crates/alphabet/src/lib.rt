@@ -1,4 +1,6 @@
 // Letters and their printed signs (document 01, "Letters, codes, blocks"): each way by a function.
+#![tactic(auto)]
+
 ghost use Rattle.std.specs.Prelude.{◌≡◌};
 ghost use Rattle.alphabet.specs.Alphabet.{sign_of, letter_of};
 

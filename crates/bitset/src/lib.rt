@@ -1,4 +1,6 @@
 // Sets of numbers below 64 as u64, bit i for i: each function gives what the model's definition says.
+#![tactic(auto)]
+
 ghost use Rattle.std.specs.Prelude.{◌≡◌, ℕ, ◌<◌, ◌^◌};
 ghost use Rattle.model.specs.Set.{has as member, both, either, some_from, one_member};
 ghost use Rattle.bitset.specs.Difference as spec;

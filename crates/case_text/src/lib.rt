@@ -1,4 +1,5 @@
 // What the programs share that run cases, one a line: reading a case's text, and writing its answer.
+#![tactic(auto)]
 
 pub mod buffer;
 pub mod case;

@@ -1,5 +1,7 @@
 // The entries that a C host calls, one for each number of an answer. Each does the whole operation. include/fekhvina.h
 // declares them.
+#![tactic(auto)]
+
 ghost use Rattle.std.specs.Prelude.{◌≡◌, length};
 ghost use Rattle.model.specs.Verdict.{number as verdictNumber};
 ghost use Rattle.operations.specs.Pair.{from_record, from_list};

@@ -1,5 +1,7 @@
 // What document 01's line program prints, over slices: its lines as text, and how far a part of the input settles them.
 // What is printed stands in specs/.
+#![tactic(auto)]
+
 mod answer;
 mod line;
 mod masks;

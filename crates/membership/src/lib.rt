@@ -1,5 +1,7 @@
 // The two questions of the operation try (01, "Try"): whether a mask spells a word (01: a code), and whether a book accepts
 // it; and check 13. A word is lent as a slice of letters.
+#![tactic(auto)]
+
 ghost use Rattle.std.specs.Prelude.{◌≡◌, ◌+◌, ◌*◌, ◌≤◌, ◌<◌, length};
 ghost use Rattle.model.specs.Membership as spec;
 ghost use Rattle.records.specs.Book.{automaton_of};

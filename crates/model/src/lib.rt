@@ -1,4 +1,5 @@
 // The types that definitions and code share. Nothing here runs: what they mean stands in specs/.
+#![tactic(auto)]
 
 // Document 01's verdicts.
 #[derive(Drop)]

@@ -1,5 +1,7 @@
 // Document 01's line program: one book and then masks from standard input, a line for each mask. What is printed stands in
 // the crate lines; here bytes are read, handed over and written.
+#![tactic(auto)]
+
 ghost use Rattle.std.specs.Prelude.{◌≡◌, ◌≤◌, ◌<◌, length};
 ghost use Rattle.narrow_lines.specs.Begun.{Keeps, Within};
 ghost use Rattle.lines.specs.declared.Pause.TheVariants.{More};

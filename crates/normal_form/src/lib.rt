@@ -1,5 +1,7 @@
 // The normal form of document 01, "The passes", made in place: blocks that can only be empty are dropped, then neighbours with
 // equal sets become one. What it is stands in model's specs/.
+#![tactic(auto)]
+
 ghost use Rattle.std.specs.Prelude.{◌≡◌, [], ◌∷◌, ◌≤◌, ◌<◌, length, set};
 ghost use Rattle.model.specs.Size.{Room};
 ghost use Rattle.model.specs.NormalForm.{idle, normal};

@@ -1,4 +1,6 @@
 // The operations of document 01 on records. What they answer, write and mean stands in specs/.
+#![tactic(auto)]
+
 ghost use Rattle.operations.specs.Pair.{from_record, from_list};
 ghost use Rattle.operations.specs.Narrow.{Narrows};
 ghost use Rattle.operations.specs.Placed.{Places};

@@ -1,4 +1,6 @@
 // The passes of document 01 on a book and the blocks of a mask: forward through the blocks, and back. All room is lent.
+#![tactic(auto)]
+
 ghost use Rattle.std.specs.Prelude.{◌+◌, ◌*◌, ◌≤◌, ◌<◌, length};
 ghost use Rattle.model.specs.Size.{Room};
 ghost use Rattle.records.specs.Book.{automaton_of};

@@ -1,5 +1,6 @@
 // Runs the cases of standard input, one a line, through the crates records and alphabet, and writes a line for each. A
 // case is `NAME: COMMAND HEX HEX ..`; an empty line and a line that starts with `#` are none.
+#![tactic(auto)]
 
 mod books;
 mod letters;

@@ -1,5 +1,7 @@
 // Kind 1 and kind 2 records of document 01, "Records": read or refused by the first failing check, and a mask written.
 // What the bytes mean stands in specs/.
+#![tactic(auto)]
+
 ghost use Rattle.std.specs.Prelude.{◌≡◌, ◌+◌, ◌*◌, ◌<◌, ◌≤◌, length};
 ghost use Rattle.model.specs.Set.{some_from};
 ghost use Rattle.model.specs.DashedString.{block_at};

@@ -1,4 +1,6 @@
 // A stream of records, each opened by its length, as document 01's line program reads it.
+#![tactic(auto)]
+
 ghost use Rattle.std.specs.Prelude.{◌≡◌, ◌-◌, ◌≤◌, length, take, drop};
 ghost use Rattle.stream.specs.Stream.{next};
 

@@ -7,6 +7,7 @@
 //   try ; BOOK ; MASK ; CODE
 //
 // A part is bytes in hex; a book may be one of 01's, `A`, `B` or `C`. An empty line and a line that starts with `#` are none.
+#![tactic(auto)]
 
 mod books;
 mod calls;

@@ -1,10 +1,8 @@
 -- `alphabet::letter_of` meets its contract: what letter_of is over a range is computed, byte by byte.
--- Assumes nothing.
 use mathlib.Core.Path.{◌≡◌, refl, sym}
 use mathlib.Core.Bool.{cond}
 use Prim.Native.Nat.{ℕ, ◌+◌, ◌-◌, ◌≤◌, ◌<◌}
 use native.Mathlib.Omega.{arith}
-use borrow.Author.Rules.{rules}
 use borrow.Author.Tests.{ne_eqb}
 use lib.Dec.{eqb}
 use Rattle.alphabet.specs.declared.Letter.{Letter}
@@ -12,8 +10,7 @@ use Rattle.alphabet.specs.declared.Letter.TheVariants.{Number, None}
 use Rattle.alphabet.specs.Alphabet.{letter_of}
 use Rattle.alphabet.proofs.Values.{values, agree}
 use Rattle.alphabet.proofs.Undo.{letter_past}
-use Rattle.alphabet.proofs.letter_of.Statement.{statement}
-use Rattle.alphabet.proofs.letter_of.Tie as tie
+use Rattle.alphabet.proofs.letter_of.Goals as goal
 
 -- letter_of at the n bytes from a on
 ranged : (a n : ℕ) (f : ℕ → Letter) → values n f ≡ values n (λ i. letter_of (a + i)) → (b : ℕ) → a ≤ b → b < a + n → f (b - a) ≡ letter_of b
@@ -30,50 +27,36 @@ unfolding values letter_of
 low b h plus minus =
     rw (ne_eqb b 43 plus, ne_eqb b 45 minus) at (agree 48 (λ b. cond (eqb b 43) (Number 0) (cond (eqb b 45) (Number 1) None)) letter_of refl b h)
 
-add-t5 : tie.Need-overflow-add-t5
-add-t5 c = search rules
-
-add-t7 : tie.Need-overflow-add-t7
-add-t7 c = search rules
-
-add-t9 : tie.Need-overflow-add-t9
-add-t9 c = search rules
-
-returns : tie.Need-returns
+pub returns-in-43 : goal.returns-in-43
 unfolding letter_of
-returns c = rw c.match.keys1
+returns-in-43 c = rw c.in-43.is
 
-returns-2 : tie.Need-returns-2
+pub returns-in-45 : goal.returns-in-45
 unfolding letter_of
-returns-2 c = rw c.match.keys2
+returns-in-45 c = rw c.in-45.is
 
-returns-3 : tie.Need-returns-3
+pub returns-in-48-to-57 : goal.returns-in-48-to-57
 unfolding values letter_of
-returns-3 c = numbered 48 10 2 refl c.before.before.before.args.byte (omega arith) (omega arith) (omega arith)
+returns-in-48-to-57 c = numbered 48 10 2 refl c.args.byte (omega arith) (omega arith) (omega arith)
 
-returns-4 : tie.Need-returns-4
+pub returns-in-65-to-90 : goal.returns-in-65-to-90
 unfolding values letter_of
-returns-4 c = numbered 65 26 12 refl c.before.before.before.before.before.args.byte (omega arith) (omega arith) (omega arith)
+returns-in-65-to-90 c = numbered 65 26 12 refl c.args.byte (omega arith) (omega arith) (omega arith)
 
-returns-5 : tie.Need-returns-5
+pub returns-in-97-to-122 : goal.returns-in-97-to-122
 unfolding values letter_of
-returns-5 c = numbered 97 26 38 refl c.before.before.before.before.before.before.before.args.byte (omega arith) (omega arith) (omega arith)
+returns-in-97-to-122 c = numbered 97 26 38 refl c.args.byte (omega arith) (omega arith) (omega arith)
 
-returns-6 : tie.Need-returns-6
-returns-6 c = low c.before.before.args.byte (omega arith) c.before.match.rest.0.1 c.before.match.rest.1
+pub returns-in_default : goal.returns-in_default
+returns-in_default c = low c.args.byte (omega arith) c.in_default.in_default-own.rest.0.1 c.in_default.in_default-own.rest.1
 
-returns-7 : tie.Need-returns-7
+pub returns-in_default-2 : goal.returns-in_default-2
 unfolding values letter_of
-returns-7 c = ranged 58 7 (λ i. None) refl c.before.before.before.before.args.byte (omega arith) (omega arith)
+returns-in_default-2 c = ranged 58 7 (λ i. None) refl c.args.byte (omega arith) (omega arith)
 
-returns-8 : tie.Need-returns-8
+pub returns-in_default-3 : goal.returns-in_default-3
 unfolding values letter_of
-returns-8 c = ranged 91 6 (λ i. None) refl c.before.before.before.before.before.before.args.byte (omega arith) (omega arith)
+returns-in_default-3 c = ranged 91 6 (λ i. None) refl c.args.byte (omega arith) (omega arith)
 
-returns-9 : tie.Need-returns-9
-returns-9 c = sym (letter_past c.before.before.before.before.before.before.before.args.byte (omega arith))
-
-pub letter-of-spec : {M : Type 1} → statement M
-letter-of-spec =
-    tie.close
-    (tie.spec add-t5 add-t7 add-t9 returns returns-2 returns-3 returns-4 returns-5 returns-6 returns-7 returns-8 returns-9)
+pub returns-in_default-4 : goal.returns-in_default-4
+returns-in_default-4 c = sym (letter_past c.args.byte (omega arith))
