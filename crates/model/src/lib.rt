@@ -2,7 +2,7 @@
 #![tactic(auto)]
 
 // Document 01's verdicts.
-#[derive(Drop)]
+#[derive(Clone, Copy)]
 pub enum Verdict {
     None,
     All,
@@ -12,7 +12,7 @@ pub enum Verdict {
 
 // A block: at least `lower` and at most `upper` letters of `base` (document 01: S, l, u).
 #[repr(C)]
-#[derive(Drop)]
+#[derive(Clone, Copy)]
 pub struct Block {
     pub base: u64,
     pub lower: u16,

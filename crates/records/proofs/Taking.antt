@@ -1,6 +1,6 @@
 -- Totals taken from block after block, and the checks by them.
 -- Assumes nothing.
-use Rattle.std.proofs.Common.{◌≡◌, ℕ, ◌+◌, ◌-◌, ◌*◌, ◌<◌, ◌≤◌, false, ◌||◌, ◌⊎◌, List, [], ◌∷◌, length, get_or, sym, refl, ◌∙◌, inl, inr, ⊎_elim, add-zero, add_assoc, add-one, arith}
+use Rattle.std.proofs.Common.{◌≡◌, ℕ, ◌+◌, ◌-◌, ◌*◌, ◌<◌, ◌≤◌, false, ◌||◌, List, [], ◌∷◌, length, get_or, sym, refl, ◌∙◌, inl, inr, ⊎_elim, add-zero, add_assoc, add-one, arith}
 use mathlib.Core.Bool.{or-false, or_assoc}
 use Rattle.model.specs.declared.Block.{Block}
 use Rattle.model.specs.Set.{either, some_from}

@@ -25,7 +25,7 @@ use model::Block;
 use totals::Totals;
 
 // The numbers of a kind 1 record (a book): n, m, the start and the accepting states. Its moves stay in the slice.
-#[derive(Drop)]
+#[derive(Clone, Copy)]
 pub struct Book {
     pub states: usize,
     pub letters: usize,
@@ -34,7 +34,7 @@ pub struct Book {
 }
 
 // What a slice is as a book.
-#[derive(Drop)]
+#[derive(Clone, Copy)]
 pub enum BookOrRefusal {
     Accepted(Book),
     Refused(u32),
@@ -42,7 +42,7 @@ pub enum BookOrRefusal {
 
 // The numbers of a mask: how many blocks, the sum of their upper bounds, and the letters that some set has. Its blocks stay
 // where they are.
-#[derive(Drop)]
+#[derive(Clone, Copy)]
 pub struct Mask {
     pub blocks: usize,
     pub uppers: usize,
@@ -50,7 +50,7 @@ pub struct Mask {
 }
 
 // What a slice is as a mask.
-#[derive(Drop)]
+#[derive(Clone, Copy)]
 pub enum MaskOrRefusal {
     Accepted(Mask),
     Refused(u32),

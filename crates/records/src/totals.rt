@@ -8,7 +8,7 @@ use crate::blocks::block_from;
 use model::Block;
 
 // Whether some l is above its u, the sum of the upper bounds, and the letters that some set has.
-#[derive(Drop)]
+#[derive(Clone, Copy)]
 pub(crate) struct Totals {
     pub crossed: bool,
     pub uppers: usize,
