@@ -8,7 +8,7 @@ ghost use Rattle.alphabet.specs.Alphabet.{sign_of, letter_of};
 const SIGNS: [u8; 64] = *b"+-0123456789ABCDEFGHIJKLMNOPQRSTUVWXYZabcdefghijklmnopqrstuvwxyz";
 
 // A letter, or no letter.
-#[derive(Drop)]
+#[derive(Clone, Copy)]
 pub enum Letter {
     Number(u8),
     None,

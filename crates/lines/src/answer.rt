@@ -10,7 +10,7 @@ use model::Verdict;
 use operations::NarrowAnswer;
 
 // The sum of the lower and the sum of the upper bounds.
-#[derive(Drop)]
+#[derive(Clone, Copy)]
 pub(crate) struct Sums {
     pub lowers: u64,
     pub uppers: u64,

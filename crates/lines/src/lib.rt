@@ -12,7 +12,7 @@ pub use masks::run;
 pub use opening::open;
 
 // Why the lines pause: the buffer is full, more input is wanted, or nothing more is to be printed.
-#[derive(Drop)]
+#[derive(Clone, Copy)]
 pub enum Pause {
     Full,
     More,
@@ -20,7 +20,7 @@ pub enum Pause {
 }
 
 // How far the input was worked: bytes taken, bytes of text, the next mask's number, and why no further.
-#[derive(Drop)]
+#[derive(Clone, Copy)]
 pub struct Progress {
     pub taken: usize,
     pub size: usize,
@@ -30,7 +30,7 @@ pub struct Progress {
 
 // What an input begins with: a book of so many bytes, with the number of the first mask; no book, with so many bytes of
 // text; or more input is wanted.
-#[derive(Drop)]
+#[derive(Clone, Copy)]
 pub enum Opened {
     Book { size: usize, first: u64 },
     Refused(usize),

@@ -9,7 +9,7 @@ use stream::Next;
 
 // What one mask adds: its line, of so many bytes of input and of text then; the last line, where nothing follows; or more
 // input is wanted.
-#[derive(Drop)]
+#[derive(Clone, Copy)]
 pub(crate) enum Step {
     Line { taken: usize, size: usize },
     Last(usize),

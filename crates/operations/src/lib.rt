@@ -23,28 +23,28 @@ use placing::{missing, place_entry};
 use records::MaskOrRefusal;
 
 // What narrow answers: the verdict and the bytes written, or the refusal.
-#[derive(Drop)]
+#[derive(Clone, Copy)]
 pub enum NarrowAnswer {
     Narrowed { verdict: Verdict, bytes: u32 },
     Refused(u32),
 }
 
 // What place answers: the set and bounds of an entry of the narrowed list, or the refusal.
-#[derive(Drop)]
+#[derive(Clone, Copy)]
 pub enum PlaceAnswer {
     Placed(Block),
     Refused(u32),
 }
 
 // What tidy answers: the bytes written, or the refusal.
-#[derive(Drop)]
+#[derive(Clone, Copy)]
 pub enum TidyAnswer {
     Written(u32),
     Refused(u32),
 }
 
 // What try answers: whether the mask spells the code and whether the book accepts it, or the refusal.
-#[derive(Drop)]
+#[derive(Clone, Copy)]
 pub enum TryAnswer {
     Tried { mask: bool, book: bool },
     Refused(u32),

@@ -8,14 +8,14 @@ ghost use Rattle.operations.specs.Pair.{Given, read_given, read_pair, pair_numbe
 use records::{Book, BookOrRefusal, Mask, MaskOrRefusal};
 
 // The numbers of a book and of a mask whose letters are the book's.
-#[derive(Drop)]
+#[derive(Clone, Copy)]
 pub(crate) struct Pair {
     pub book: Book,
     pub mask: Mask,
 }
 
 // What is lent, as a book and a mask.
-#[derive(Drop)]
+#[derive(Clone, Copy)]
 pub(crate) enum PairOrRefusal {
     Accepted(Pair),
     Refused(u32),

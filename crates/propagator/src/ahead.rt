@@ -13,7 +13,7 @@ use crate::known::{step, turn_to};
 use model::Block;
 
 // What stands behind the last block: the states possible there, and the sum of the lower bounds.
-#[derive(Drop)]
+#[derive(Clone, Copy)]
 pub(crate) struct Behind {
     pub states: u64,
     pub sum: usize,

@@ -20,14 +20,14 @@ use back::go_back;
 use records::Book;
 
 // How many states and letters a book has.
-#[derive(Drop)]
+#[derive(Clone, Copy)]
 pub(crate) struct Shape {
     pub states: usize,
     pub letters: usize,
 }
 
 // What the passes found: the states possible behind the last block, and how many entries the narrowed list has.
-#[derive(Drop)]
+#[derive(Clone, Copy)]
 pub struct Passed {
     pub states: u64,
     pub entries: usize,

@@ -13,7 +13,7 @@ use crate::places::{Kept, narrow_place};
 use model::Block;
 
 // What an optional part becomes, and the states kept before it; and what a place becomes that was looked at for it.
-#[derive(Drop)]
+#[derive(Clone, Copy)]
 pub(crate) struct Optional {
     pub block: Block,
     pub states: u64,

@@ -11,7 +11,7 @@ use model::Block;
 
 // What a place becomes that has the states `from` before it and the states `to` kept behind it: the letters that stay, and the
 // states kept before it.
-#[derive(Drop)]
+#[derive(Clone, Copy)]
 pub(crate) struct Kept {
     pub from: u64,
     pub to: u64,

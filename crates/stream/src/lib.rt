@@ -5,7 +5,7 @@ ghost use Rattle.std.specs.Prelude.{◌≡◌, ◌-◌, ◌≤◌, length, take,
 ghost use Rattle.stream.specs.Stream.{next};
 
 // What stands next in a stream: a record of so many bytes, a length field under 4, a record that is cut off, or nothing.
-#[derive(Drop)]
+#[derive(Clone, Copy)]
 pub enum Next {
     Whole(usize),
     Short,
