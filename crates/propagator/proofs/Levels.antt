@@ -1,7 +1,7 @@
 -- Steps 3 and 4: the levels of b, the least b, and what an optional part becomes.
 -- Assumes nothing.
 use Prim.Native.Nat.{ℕ, zero, suc, ◌+◌, ◌-◌, ◌^◌, ◌≤◌, ◌<◌}
-use mathlib.Core.Path.{◌≡◌, refl, sym, ◌∙◌}
+use mathlib.Core.Path.{◌≡◌, refl, sym, ◌∙◌, subst}
 use mathlib.Core.Logic.{◌⊎◌, inl, inr, ⊎_elim}
 use mathlib.Core.Bool.{Bool, true, false}
 use native.Mathlib.Omega.{arith}
@@ -189,4 +189,5 @@ optional_some t S Q R E (suc v) level letters kept lower all s fits n r within a
     let back : suc v - 1 ≡ v = omega arith in
     let same : level ≡ to_end t S R E v = rw back at e in
     let whole = level_both t fits S R E within v a b in
-    (rw (f, h, ← r, same, whole), rw (j, i, g, ← r, same))
+    let P : ℕ → Type 0 = λ X. s ≡ both Q (to_end t S X E (suc v)) in
+    (rw (f, h, ← r, same, whole), subst P r (rw (j, i, g, same)))
