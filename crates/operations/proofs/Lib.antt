@@ -9,7 +9,6 @@ pub mod Judging
 pub mod Narrowed
 pub mod Lists
 pub mod Filled
-pub mod Walking
 pub mod Told
 pub mod EntryNumbers
 pub mod Placed
