@@ -3,7 +3,7 @@
 #![tactic(auto)]
 
 ghost use Rattle.std.specs.Prelude.{◌≡◌, length};
-ghost use Rattle.model.specs.Verdict.{number as verdictNumber};
+ghost use Rattle.model.specs.Verdict.{number as verdict_number};
 ghost use Rattle.operations.specs.Pair.{from_record, from_list};
 ghost use Rattle.operations.specs.Narrow.{narrowed, narrow_numbers, Narrows};
 ghost use Rattle.operations.specs.Placed.{placed, place_numbers, Places};
@@ -51,7 +51,7 @@ fn narrow_bytes(answer: NarrowAnswer) -> u32
 
 // None, all, one and some are 1 to 4.
 fn verdict_number(verdict: Verdict) -> u32
-    ensures { result ≡ verdictNumber verdict }
+    ensures { result ≡ verdict_number verdict }
 {
     match verdict {
         Verdict::None => 1,
