@@ -1,7 +1,9 @@
 // A line of the input: a case, `NAME: TEXT`, or none.
-ghost use Rattle.std.specs.Prelude.{◌≤◌, length};
+ghost use Rattle.std.specs.Prelude.{◌≤◌, length, IfOk};
 
 use crate::{show, text};
+use std::io;
+use std::io::Write;
 
 // Whether a line is a case: an empty one and one that starts with `#` are none.
 pub fn is_case(line: &[u8]) -> bool {
@@ -12,17 +14,17 @@ pub fn is_case(line: &[u8]) -> bool {
 }
 
 // Writes the name, all up to the colon, and returns where the text behind `: ` starts; the length where there is none.
-pub fn write_name(line: &[u8]) -> usize
-    ensures { result ≤ length line.now }
+pub fn write_name(out: &mut impl Write, line: &[u8]) -> io::Result<usize>
+    ensures { IfOk result (λ start. start ≤ length line.now) }
 {
     let colon = text::find(line, 0, b':');
-    show::text(&line[0..colon]);
-    show::text(b": ");
+    show::text(out, &line[..colon])?;
+    show::text(out, b": ")?;
     if line.len() - colon < 2 {
-        return line.len();
+        return Ok(line.len());
     }
     if line[colon + 1] != b' ' {
-        return line.len();
+        return Ok(line.len());
     }
-    colon + 2
+    Ok(colon + 2)
 }

@@ -16,15 +16,11 @@ pub fn read_bytes(tokens: &[u8], bytes: &mut [u8]) -> Filled
     ensures { Within (length bytes.new) result }
 {
     let mut count = 0;
-    let mut at = 0;
-    while at < tokens.len() {
-        let end = text::find(tokens, at, b' ');
-        let got = read_token(&tokens[at..end], bytes, count);
-        let Filled::Count(more) = got else {
+    for token in tokens.split(|byte| *byte == b' ') {
+        let Filled::Count(more) = read_token(token, bytes, count) else {
             return Filled::Unreadable;
         };
         count = more;
-        at = end + 1;
     }
     Filled::Count(count)
 }
@@ -72,10 +68,8 @@ fn repeat_last(digits: &[u8], bytes: &mut [u8], count: usize) -> Filled
         return Filled::Unreadable;
     }
     let last = bytes[count - 1];
-    let mut i = count;
-    while i < end {
+    for i in count..end {
         bytes[i] = last;
-        i += 1;
     }
     Filled::Count(end)
 }

@@ -6,14 +6,12 @@ pub fn find(text: &[u8], from: usize, byte: u8) -> usize
     requires { from ≤ length text.now }
     ensures { (from ≤ result) × (result ≤ length text.now) }
 {
-    let mut at = from;
-    while at < text.len() {
+    for at in from..text.len() {
         if text[at] == byte {
             return at;
         }
-        at += 1;
     }
-    at
+    text.len()
 }
 
 // The value of a hex digit, of either case; 16 for a byte that is none.
@@ -31,9 +29,8 @@ pub fn number(digits: &[u8]) -> usize
     ensures { result < 100000 }
 {
     let mut n = 0;
-    let mut at = 0;
-    while at < digits.len() {
-        let digit = hex_digit(digits[at]);
+    for byte in digits {
+        let digit = hex_digit(*byte);
         if 9 < digit {
             return 0;
         }
@@ -41,7 +38,6 @@ pub fn number(digits: &[u8]) -> usize
         if 99999 < n {
             return 0;
         }
-        at += 1;
     }
     n
 }

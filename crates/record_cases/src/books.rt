@@ -3,38 +3,39 @@ ghost use Rattle.std.specs.Prelude.{◌≡◌, ◌*◌, ◌<◌, length};
 
 use case_text::show;
 use records::BookOrRefusal;
+use std::io;
+use std::io::Write;
 
 // Writes the numbers of a book, or its refusal.
-pub fn book(bytes: &[u8]) {
-    let got = records::read_book(bytes);
-    let BookOrRefusal::Accepted(book) = got else {
-        return show::refused(records::book_number(got));
-    };
-    show::text(b"book");
-    show::next_number(book.states as u64);
-    show::next_number(book.letters as u64);
-    show::next_number(book.start as u64);
-    show::next_number(book.accepting);
+pub fn book(out: &mut impl Write, bytes: &[u8]) -> io::Result<()> {
+    match records::read_book(bytes) {
+        BookOrRefusal::Refused(number) => show::refused(out, number),
+        BookOrRefusal::Accepted(book) => {
+            show::text(out, b"book")?;
+            show::next_number(out, book.states as u64)?;
+            show::next_number(out, book.letters as u64)?;
+            show::next_number(out, book.start as u64)?;
+            show::next_number(out, book.accepting)
+        }
+    }
 }
 
 // Writes the next states of a book, or its refusal.
-pub fn moves(bytes: &[u8]) {
-    let got = records::read_book(bytes);
-    let BookOrRefusal::Accepted(book) = got else {
-        return show::refused(records::book_number(got));
-    };
-    next_states(book.states, book.letters, &bytes[15..]);
+pub fn moves(out: &mut impl Write, bytes: &[u8]) -> io::Result<()> {
+    match records::read_book(bytes) {
+        BookOrRefusal::Refused(number) => show::refused(out, number),
+        BookOrRefusal::Accepted(book) => next_states(out, book.states, book.letters, &bytes[15..]),
+    }
 }
 
 // Writes the next states, state by state and letter by letter.
-fn next_states(states: usize, letters: usize, moves: &[u8])
+fn next_states(out: &mut impl Write, states: usize, letters: usize, moves: &[u8]) -> io::Result<()>
     requires { (0 < letters) × (length moves.now ≡ states * letters) }
 {
-    let mut i = 0;
-    while i < moves.len() {
-        show::blank_before(i);
+    for i in 0..moves.len() {
+        show::blank_before(out, i)?;
         let state = records::next_state(states, letters, moves, i / letters, i % letters);
-        show::number(state as u64);
-        i += 1;
+        show::number(out, state as u64)?;
     }
+    Ok(())
 }

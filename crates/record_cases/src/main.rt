@@ -8,61 +8,53 @@ mod masks;
 
 use case_text::hex::Filled;
 use case_text::{case, hex, show, text};
-use libc::STDIN_FILENO;
+use std::io;
+use std::io::{Read, Write};
 
 // Reads the cases and runs them.
-fn main() {
-    let mut input = io::large_buffer();
-    let size = io::read_full(STDIN_FILENO, &mut input);
+fn main(rt: HostRuntime) -> io::Result<()> {
+    let mut input = Vec::new(rt.alloc());
+    rt.stdin().read_to_end(&mut input)?;
     let mut bytes = [0u8; 70000];
-    run_lines(&input[..size], &mut bytes);
+    run_lines(&mut rt.stdout(), &input, &mut bytes)
 }
 
 // Runs the case of each line; `bytes` is room for what a case's hex text says.
-fn run_lines(input: &[u8], bytes: &mut [u8]) {
-    let mut at = 0;
-    while at < input.len() {
-        let end = text::find(input, at, b'\n');
-        run_line(&input[at..end], bytes);
-        at = end + 1;
+fn run_lines(out: &mut impl Write, input: &[u8], bytes: &mut [u8]) -> io::Result<()> {
+    for line in input.split(|byte| *byte == b'\n') {
+        run_line(out, line, bytes)?;
     }
+    Ok(())
 }
 
 // Writes the line of a case: its name and its answer. A line that is no case writes nothing.
-fn run_line(line: &[u8], bytes: &mut [u8]) {
+fn run_line(out: &mut impl Write, line: &[u8], bytes: &mut [u8]) -> io::Result<()> {
     if !case::is_case(line) {
-        return;
+        return Ok(());
     }
-    let start = case::write_name(line);
-    answer(&line[start..], bytes);
-    show::text(b"\n");
+    let start = case::write_name(out, line)?;
+    answer(out, &line[start..], bytes)?;
+    show::text(out, b"\n")
 }
 
 // Answers the case whose text behind the name is lent: the command and the bytes in hex.
-fn answer(case: &[u8], bytes: &mut [u8]) {
+fn answer(out: &mut impl Write, case: &[u8], bytes: &mut [u8]) -> io::Result<()> {
     let end = text::find(case, 0, b' ');
-    let got = hex::read_bytes(&case[end..], bytes);
-    let Filled::Count(count) = got else {
-        return show::unreadable();
-    };
-    run_command(&case[0..end], &bytes[0..count]);
+    match hex::read_bytes(&case[end..], bytes) {
+        Filled::Unreadable => show::unreadable(out),
+        Filled::Count(count) => run_command(out, &case[..end], &bytes[..count]),
+    }
 }
 
 // Answers a command on the bytes of its case.
-fn run_command(command: &[u8], bytes: &[u8]) {
-    if check::same(command, b"book") {
-        books::book(bytes);
-    } else if check::same(command, b"moves") {
-        books::moves(bytes);
-    } else if check::same(command, b"mask") {
-        masks::mask(bytes);
-    } else if check::same(command, b"letters") {
-        masks::letters(bytes);
-    } else if check::same(command, b"signs") {
-        letters::signs(bytes);
-    } else if check::same(command, b"bytes") {
-        letters::numbers(bytes);
-    } else {
-        show::unreadable();
+fn run_command(out: &mut impl Write, command: &[u8], bytes: &[u8]) -> io::Result<()> {
+    match command {
+        b"book" => books::book(out, bytes),
+        b"moves" => books::moves(out, bytes),
+        b"mask" => masks::mask(out, bytes),
+        b"letters" => masks::letters(out, bytes),
+        b"signs" => letters::signs(out, bytes),
+        b"bytes" => letters::numbers(out, bytes),
+        _ => show::unreadable(out),
     }
 }

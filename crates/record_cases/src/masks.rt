@@ -5,61 +5,63 @@ use case_text::buffer::untouched;
 use case_text::show;
 use model::Block;
 use records::MaskOrRefusal;
+use std::io;
+use std::io::Write;
 
 // Writes the numbers of a mask, its blocks where they are few, and whether it comes back as it was; or its refusal.
-pub fn mask(bytes: &[u8]) {
-    let got = records::read_mask(bytes);
-    let MaskOrRefusal::Accepted(mask) = got else {
-        return show::refused(records::mask_number(got));
-    };
-    show::text(b"mask");
-    show::next_number(mask.blocks as u64);
-    show::next_number(mask.uppers as u64);
-    if mask.blocks <= 8 {
-        blocks(bytes, mask.blocks);
-    }
-    if comes_back(bytes, mask.blocks) {
-        show::text(b" same");
-    } else {
-        show::text(b" differs");
+pub fn mask(out: &mut impl Write, bytes: &[u8]) -> io::Result<()> {
+    match records::read_mask(bytes) {
+        MaskOrRefusal::Refused(number) => show::refused(out, number),
+        MaskOrRefusal::Accepted(mask) => {
+            show::text(out, b"mask")?;
+            show::next_number(out, mask.blocks as u64)?;
+            show::next_number(out, mask.uppers as u64)?;
+            if mask.blocks <= 8 {
+                blocks(out, bytes, mask.blocks)?;
+            }
+            if comes_back(bytes, mask.blocks) {
+                show::text(out, b" same")
+            } else {
+                show::text(out, b" differs")
+            }
+        }
     }
 }
 
 // Writes 9 where some set of a mask has a letter that is the first byte or above, else 0; or the mask's refusal.
-pub fn letters(bytes: &[u8]) {
+pub fn letters(out: &mut impl Write, bytes: &[u8]) -> io::Result<()> {
     if bytes.len() == 0 {
-        return show::unreadable();
+        return show::unreadable(out);
     }
-    let mask_bytes = &bytes[1..];
-    let got = records::read_mask(mask_bytes);
-    let MaskOrRefusal::Accepted(mask) = got else {
-        return show::refused(records::mask_number(got));
-    };
-    if records::some_foreign(mask, bytes[0] as usize) {
-        show::text(b"9");
-    } else {
-        show::text(b"0");
+    match records::read_mask(&bytes[1..]) {
+        MaskOrRefusal::Refused(number) => show::refused(out, number),
+        MaskOrRefusal::Accepted(mask) => {
+            if records::some_foreign(mask, bytes[0] as usize) {
+                show::text(out, b"9")
+            } else {
+                show::text(out, b"0")
+            }
+        }
     }
 }
 
 // Writes each block.
-fn blocks(bytes: &[u8], blocks: usize)
+fn blocks(out: &mut impl Write, bytes: &[u8], blocks: usize) -> io::Result<()>
     requires { Holds bytes.now blocks }
 {
-    let mut i = 0;
-    while i < blocks {
-        block(records::read_block(bytes, i));
-        i += 1;
+    for i in 0..blocks {
+        block(out, records::read_block(bytes, i))?;
     }
+    Ok(())
 }
 
 // Writes the set and the bounds of a block.
-fn block(block: Block) {
-    show::next_number(block.base);
-    show::text(b"-");
-    show::number(block.lower as u64);
-    show::text(b"-");
-    show::number(block.upper as u64);
+fn block(out: &mut impl Write, block: Block) -> io::Result<()> {
+    show::next_number(out, block.base)?;
+    show::text(out, b"-")?;
+    show::number(out, block.lower as u64)?;
+    show::text(out, b"-")?;
+    show::number(out, block.upper as u64)
 }
 
 // Whether the blocks of a mask, read and written again, give the mask's bytes and leave what lies behind them.
@@ -72,5 +74,5 @@ fn comes_back(bytes: &[u8], blocks: usize) -> bool
     records::read_blocks(bytes, blocks, &mut bases, &mut lowers, &mut uppers);
     let mut out = [0xEEu8; 12300];
     let size = records::write_mask(&bases, &lowers, &uppers, blocks, &mut out);
-    check::same(bytes, &out[0..size]) && untouched(&out[size..])
+    bytes == &out[..size] && untouched(&out[size..])
 }

@@ -16,79 +16,83 @@ mod parts;
 
 use case_text::hex::Filled;
 use case_text::{case, show, text};
-use libc::STDIN_FILENO;
+use std::io;
+use std::io::{Read, Write};
 
 // Reads the cases and runs them.
-fn main() {
-    let mut input = io::large_buffer();
-    let size = io::read_full(STDIN_FILENO, &mut input);
-    run_lines(&input[..size]);
+fn main(rt: HostRuntime) -> io::Result<()> {
+    let mut input = Vec::new(rt.alloc());
+    rt.stdin().read_to_end(&mut input)?;
+    run_lines(&mut rt.stdout(), &input)
 }
 
 // Runs the case of each line.
-fn run_lines(input: &[u8]) {
-    let mut at = 0;
-    while at < input.len() {
-        let end = text::find(input, at, b'\n');
-        run_line(&input[at..end]);
-        at = end + 1;
+fn run_lines(out: &mut impl Write, input: &[u8]) -> io::Result<()> {
+    for line in input.split(|byte| *byte == b'\n') {
+        run_line(out, line)?;
     }
+    Ok(())
 }
 
 // Writes the line of a case: its name and its answer. A line that is no case writes nothing.
-fn run_line(line: &[u8]) {
+fn run_line(out: &mut impl Write, line: &[u8]) -> io::Result<()> {
     if !case::is_case(line) {
-        return;
+        return Ok(());
     }
-    let start = case::write_name(line);
-    answer(&line[start..]);
-    show::text(b"\n");
+    let start = case::write_name(out, line)?;
+    answer(out, &line[start..])?;
+    show::text(out, b"\n")
 }
 
 // Answers the case whose text behind the name is lent, with room for its parts.
-fn answer(case: &[u8]) {
+fn answer(out: &mut impl Write, case: &[u8]) -> io::Result<()> {
     let mut first = [0u8; 70000];
     let mut second = [0u8; 70000];
     let mut third = [0u8; 2000];
-    answer_in(case, &mut first, &mut second, &mut third);
+    answer_in(out, case, &mut first, &mut second, &mut third)
 }
 
 // Reads the parts and runs the command on them.
-fn answer_in(case: &[u8], first: &mut [u8], second: &mut [u8], third: &mut [u8]) {
-    let got_first = parts::read(case, 1, first);
-    let Filled::Count(a) = got_first else {
-        return show::unreadable();
+fn answer_in(
+    out: &mut impl Write,
+    case: &[u8],
+    first: &mut [u8],
+    second: &mut [u8],
+    third: &mut [u8],
+) -> io::Result<()> {
+    let Filled::Count(a) = parts::read(case, 1, first) else {
+        return show::unreadable(out);
     };
-    let got_second = parts::read(case, 2, second);
-    let Filled::Count(b) = got_second else {
-        return show::unreadable();
+    let Filled::Count(b) = parts::read(case, 2, second) else {
+        return show::unreadable(out);
     };
-    let got_third = parts::read(case, 3, third);
-    let Filled::Count(c) = got_third else {
-        return show::unreadable();
+    let Filled::Count(c) = parts::read(case, 3, third) else {
+        return show::unreadable(out);
     };
-    run_command(case, &first[0..a], &second[0..b], &third[0..c]);
+    run_command(out, case, &first[..a], &second[..b], &third[..c])
 }
 
 // Answers a command on the parts of its case; one that it does not take is left alone.
-fn run_command(case: &[u8], first: &[u8], second: &[u8], third: &[u8]) {
+fn run_command(
+    out: &mut impl Write,
+    case: &[u8],
+    first: &[u8],
+    second: &[u8],
+    third: &[u8],
+) -> io::Result<()> {
     let end = text::find(case, 0, b' ');
-    let command = &case[0..end];
-    let mut out = [0xEEu8; 12300];
-    if check::same(command, b"narrow") {
-        calls::narrow(parts::number(case, 1), first, second, &mut out);
-    } else if check::same(command, b"tidy") {
-        calls::tidy(parts::number(case, 1), first, &mut out);
-    } else if check::same(command, b"place") {
-        calls::place(
+    let mut answer = [0xEEu8; 12300];
+    match &case[..end] {
+        b"narrow" => calls::narrow(out, parts::number(case, 1), first, second, &mut answer),
+        b"tidy" => calls::tidy(out, parts::number(case, 1), first, &mut answer),
+        b"place" => calls::place(
+            out,
             parts::number(case, 1),
             parts::number(case, 2),
             first,
             second,
-        );
-    } else if check::same(command, b"try") {
-        calls::try_word(first, second, third);
-    } else {
-        show::unreadable();
+        ),
+        b"try" => calls::try_word(out, first, second, third),
+        _ => show::unreadable(out),
     }
 }

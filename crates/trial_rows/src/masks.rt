@@ -5,52 +5,55 @@ ghost use Rattle.records.specs.Mask.{count};
 use case_text::show;
 use model::Block;
 use records::MaskOrRefusal;
+use std::io;
+use std::io::Write;
 
 // Writes the blocks of a kind 2 record.
-pub fn mask(bytes: &[u8]) {
-    let got = records::read_mask(bytes);
-    let MaskOrRefusal::Accepted(mask) = got else {
-        return show::text(b"unreadable answer");
-    };
-    if mask.blocks == 0 {
-        return show::text(b"no blocks");
+pub fn mask(out: &mut impl Write, bytes: &[u8]) -> io::Result<()> {
+    match records::read_mask(bytes) {
+        MaskOrRefusal::Refused(_) => show::text(out, b"unreadable answer"),
+        MaskOrRefusal::Accepted(mask) => {
+            if mask.blocks == 0 {
+                return show::text(out, b"no blocks");
+            }
+            blocks(out, bytes, mask.blocks)
+        }
     }
-    blocks(bytes, mask.blocks);
 }
 
 // Writes each block.
-fn blocks(bytes: &[u8], blocks: usize)
+fn blocks(out: &mut impl Write, bytes: &[u8], blocks: usize) -> io::Result<()>
     requires { (blocks ≡ count bytes.now) × (6 + 12 * blocks ≤ length bytes.now) }
 {
-    let mut i = 0;
-    while i < blocks {
+    for i in 0..blocks {
         if 0 < i {
-            show::text(b", ");
+            show::text(out, b", ")?;
         }
-        block(records::read_block(bytes, i));
-        i += 1;
+        block(out, records::read_block(bytes, i))?;
     }
+    Ok(())
 }
 
 // Writes the set and the bounds of a block.
-pub fn block(block: Block) {
-    show::text(b"{");
-    letters(block.base);
-    show::text(b"} ");
-    show::number(block.lower as u64);
-    show::text(b"-");
-    show::number(block.upper as u64);
+pub fn block(out: &mut impl Write, block: Block) -> io::Result<()> {
+    show::text(out, b"{")?;
+    letters(out, block.base)?;
+    show::text(out, b"} ")?;
+    show::number(out, block.lower as u64)?;
+    show::text(out, b"-")?;
+    show::number(out, block.upper as u64)
 }
 
 // Writes the letters of a set.
-fn letters(set: u64) {
+fn letters(out: &mut impl Write, set: u64) -> io::Result<()> {
     let mut rest = set;
     while 0 < rest {
         if rest != set {
-            show::text(b",");
+            show::text(out, b",")?;
         }
         let letter = bitset::first_member(rest);
-        show::number(letter as u64);
+        show::number(out, letter as u64)?;
         rest = bitset::without_first(rest);
     }
+    Ok(())
 }

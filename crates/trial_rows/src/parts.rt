@@ -11,14 +11,12 @@ fn behind(case: &[u8], count: usize, byte: u8) -> usize
     ensures { result ≤ length case.now }
 {
     let mut at = 0;
-    let mut left = count;
-    while 0 < left {
+    for _ in 0..count {
         let end = text::find(case, at, byte);
         if end == case.len() {
             return end;
         }
         at = end + 1;
-        left -= 1;
     }
     at
 }
@@ -39,15 +37,10 @@ pub fn read(case: &[u8], i: usize, bytes: &mut [u8]) -> Filled
 {
     let start = behind(case, i, b';');
     let end = text::find(case, start, b';');
-    let part = &case[start..end];
-    if check::same(part, b" A ") {
-        return hex::read_bytes(&books::A, bytes);
+    match &case[start..end] {
+        b" A " => hex::read_bytes(&books::A, bytes),
+        b" B " => hex::read_bytes(&books::B, bytes),
+        b" C " => hex::read_bytes(&books::C, bytes),
+        part => hex::read_bytes(part, bytes),
     }
-    if check::same(part, b" B ") {
-        return hex::read_bytes(&books::B, bytes);
-    }
-    if check::same(part, b" C ") {
-        return hex::read_bytes(&books::C, bytes);
-    }
-    hex::read_bytes(part, bytes)
 }
