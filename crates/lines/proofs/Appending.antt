@@ -9,25 +9,25 @@ use native.Mathlib.Omega.{arith}
 use borrow.Author.Tests.{lt-ltb, le-ltb}
 use lib.Dec.{ltb}
 use lib.ListN.{length, take, length-append}
-use lib.Seq.{length-take-le, take-append-add, take-append_seam, take-length}
+use lib.Seq.{length-take-le, take-append-add, take-append_seam}
 use Rattle.model.specs.declared.Verdict.{Verdict}
 use Rattle.model.specs.declared.Verdict.TheVariants.{None, All, One, Some}
 use Rattle.io.specs.Digits as io
 use Rattle.lines.specs.Text.{ascii, digits, decimal, Appends}
 use Rattle.lines.specs.Line.{word, spaced}
 
--- a text copied over the first bytes of the part from at on, as the part is lent and comes back
-pub put_behind : (text old under part behind : List ℕ) (at r : ℕ) → at ≤ length old → r ≡ length text
-    → part ≡ take (length text) text ++ under → Appends text old at (take at old ++ (part ++ behind)) (at + r)
-put_behind text old under part behind at r h e f = record { size = rw e; filled = filled }
+-- a text copied over the bytes from at on, as these are lent and come back
+pub put_behind : (text old part behind : List ℕ) (at r : ℕ) → at ≤ length old → r ≡ length text → part ≡ text
+    → Appends text old at (take at old ++ (part ++ behind)) (at + r)
+put_behind text old part behind at r h e f = record { size = rw e; filled = filled }
   where
     front : length (take at old) ≡ at
     front = length-take-le at old h
 
     filled : take (at + r) (take at old ++ (part ++ behind)) ≡ take at old ++ text
     filled =
-        rw (f, e, take-length text, append_assoc text under behind)
-        (rw front at (take-append-add (take at old) (text ++ (under ++ behind)) (length text)) ∙ ap (λ l. take at old ++ l) (take-append_seam text (under ++ behind)))
+        rw (f, e)
+        (rw front at (take-append-add (take at old) (text ++ behind) (length text)) ∙ ap (λ l. take at old ++ l) (take-append_seam text behind))
 
 -- one text behind another
 pub then : (a b old mid new : List ℕ) (at p r : ℕ) → Appends a old at mid p → Appends b mid p new r → Appends (a ++ b) old at new r

@@ -1,13 +1,13 @@
 -- The book that an input begins with, whatever comes later.
 -- Assumes nothing.
-use Prim.Native.Nat.{ℕ, zero, suc, ◌+◌, ◌*◌, ◌≤◌, ◌<◌}
-use mathlib.Core.Path.{◌≡◌, refl, sym, ◌∙◌, ap}
+use Prim.Native.Nat.{ℕ, zero, suc, ◌*◌, ◌≤◌, ◌<◌}
+use mathlib.Core.Path.{◌≡◌, refl, sym, ◌∙◌}
 use mathlib.Core.Bool.{Bool, true}
 use mathlib.Core.List.{List, ◌++◌, append-nil}
 use native.Mathlib.Nat.{mul-le-mul}
 use native.Mathlib.Omega.{arith}
 use lib.ListN.{length, take, drop, length-append}
-use lib.Seq.{take-append-le, drop-append-le, length-take-le, take-append_seam, take-length}
+use lib.Seq.{take-append-le, drop-append-le, length-take-le, take-append_seam}
 use Rattle.records.specs.declared.Book as records
 use Rattle.records.specs.declared.BookOrRefusal.{BookOrRefusal}
 use Rattle.records.specs.declared.BookOrRefusal.TheVariants as bookAnswer
@@ -41,16 +41,15 @@ put_first text old new r put = (put_within text old 0 new r put (omega arith), p
 -- ---- a whole record
 
 -- an accepted book, copied
-pub taken_book : (bs old new text : List ℕ) (b : records.Book) (k : ℕ) → read_book bs ≡ bookAnswer.Accepted b → length bs ≤ length old → k ≡ length bs
-    → new ≡ take (length bs) bs ++ drop (length bs) old → Taken bs new text (Book k 1)
-taken_book bs old new text b k e room is copied =
-    let whole : new ≡ bs ++ drop (length bs) old = copied ∙ ap (λ l. l ++ drop (length bs) old) (take-length bs) in (
-      is,
-      refl,
-      (book_accepted bs b e).0,
-      omega (arith, is, ap length whole, length-append bs (drop (length bs) old)),
-      rw (is, whole) (take-append_seam bs (drop (length bs) old)),
-    )
+pub taken_book : (bs part behind text : List ℕ) (b : records.Book) (k : ℕ) → read_book bs ≡ bookAnswer.Accepted b → k ≡ length bs
+    → part ≡ bs → Taken bs (part ++ behind) text (Book k 1)
+taken_book bs part behind text b k e is copied = (
+  is,
+  refl,
+  (book_accepted bs b e).0,
+  rw copied (omega (arith, is, length-append bs behind)),
+  rw (is, copied) (take-append_seam bs behind),
+)
 
 -- a refused one, and its line
 pub taken_refused : (bs old new book : List ℕ) (got : BookOrRefusal) (n r size : ℕ) → got ≡ read_book bs → got ≡ bookAnswer.Refused n

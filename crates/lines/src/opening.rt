@@ -16,7 +16,8 @@ fn take_book(whole: &[u8], book: &mut [u8], out: &mut [u8]) -> Opened
     let BookOrRefusal::Accepted(_) = got else {
         return Opened::Refused(book_line(records::book_number(got), out));
     };
-    let size = bytes::copy(whole, book);
+    let size = whole.len();
+    book[..size].copy_from_slice(whole);
     Opened::Book { size, first: 1 }
 }
 

@@ -7,8 +7,9 @@ pub(crate) fn put(text: &[u8], out: &mut [u8], at: usize) -> usize
     requires { at + length text.now ≤ length out.old }
     ensures { Appends text.now out.old at out.new result }
 {
-    let size = bytes::copy(text, &mut out[at..]);
-    at + size
+    let end = at + text.len();
+    out[at..end].copy_from_slice(text);
+    end
 }
 
 // Puts a number in decimal.

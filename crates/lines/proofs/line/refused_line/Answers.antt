@@ -1,0 +1,15 @@
+-- `lines::line::refused_line` meets its contract.
+use native.Mathlib.Omega.{arith}
+use Rattle.lines.proofs.Appending.{then, digits_few}
+use Rattle.lines.proofs.line.refused_line.Goals as goal
+
+pub put-at-requires : goal.put-at-requires
+put-at-requires c = omega (arith, c.requires, c.put_decimal-at.ensures.size, digits_few 20 c.args.number, c.out-1.given)
+
+pub put_numbers-requires : goal.put_numbers-requires
+put_numbers-requires c = omega (arith, c.requires, c.put_decimal-at.ensures.size, digits_few 20 c.args.number, c.put-at.ensures.size, c.out-1.given, c.out-2-1.given)
+
+pub returns : goal.returns
+returns c =
+    let two = then _ _ _ _ _ _ _ _ c.put_decimal-at.ensures c.put-at.ensures in
+    then _ _ _ _ _ _ _ _ two c.put_numbers.ensures
