@@ -27,12 +27,7 @@ pub fn narrow(
 }
 
 // Tidy, with the first `room` bytes of `answer` as the answer buffer.
-pub fn tidy(
-    out: &mut impl Write,
-    room: usize,
-    mask: &[u8],
-    answer: &mut [u8],
-) -> io::Result<()> {
+pub fn tidy(out: &mut impl Write, room: usize, mask: &[u8], answer: &mut [u8]) -> io::Result<()> {
     if answer.len() < room {
         return show::unreadable(out);
     }
@@ -67,12 +62,7 @@ pub fn try_word(out: &mut impl Write, book: &[u8], mask: &[u8], code: &[u8]) -> 
 }
 
 // Writes narrow's answer: the verdict, and the blocks of what was written, if anything was.
-fn narrowed(
-    out: &mut impl Write,
-    verdict: Verdict,
-    size: usize,
-    answer: &[u8],
-) -> io::Result<()> {
+fn narrowed(out: &mut impl Write, verdict: Verdict, size: usize, answer: &[u8]) -> io::Result<()> {
     word(out, verdict)?;
     if size == 0 {
         return touched(out, answer);
