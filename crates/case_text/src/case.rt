@@ -1,12 +1,14 @@
 // A line of the input: a case, `NAME: TEXT`, or none.
-ghost use Rattle.std.specs.Prelude.{◌≤◌, length, IfOk};
+ghost use Rattle.std.specs.Prelude.{◌≢◌, ◌↔◌, ◌≤◌, ◌<◌, length, slice_index, IfOk, IsTrue};
 
 use crate::{show, text};
 use std::io;
 use std::io::Write;
 
 // Whether a line is a case: an empty one and one that starts with `#` are none.
-pub fn is_case(line: &[u8]) -> bool {
+pub fn is_case(line: &[u8]) -> bool
+    ensures { IsTrue result ↔ (0 < length line.now × slice_index line.now 0 ≢ 35) }
+{
     if line.len() == 0 {
         return false;
     }

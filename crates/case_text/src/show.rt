@@ -1,38 +1,48 @@
 // What is written to standard output, through the writer that is lent.
+ghost use Rattle.std.specs.Prelude.{◌++◌, ◌<◌, nat_lt, [], OnOk, codes, decimal, if◌then◌else◌};
+ghost use Rattle.std.specs.Io.KnownBytes.{Appends};
+
 use std::io;
 use std::io::Write;
 
 // Writes text as it stands.
-pub fn text(out: &mut impl Write, bytes: &[u8]) -> io::Result<()> {
+pub fn text<W: Write>(out: &mut W, bytes: &[u8]) -> io::Result<()>
+    ensures { OnOk result (Appends (W.contents out.old) (W.contents out.new) bytes.now) }
+{
     out.write_all(bytes)
 }
 
 // Writes a number in decimal.
-pub fn number(out: &mut impl Write, n: u64) -> io::Result<()> {
+pub fn number<W: Write>(out: &mut W, n: u64) -> io::Result<()>
+    ensures { OnOk result (Appends (W.contents out.old) (W.contents out.new) (decimal n)) }
+{
     write!(out, "{n}")
 }
 
 // Writes a blank and a number.
-pub fn next_number(out: &mut impl Write, n: u64) -> io::Result<()> {
-    text(out, b" ")?;
-    number(out, n)
+pub fn next_number<W: Write>(out: &mut W, n: u64) -> io::Result<()>
+    ensures { OnOk result (Appends (W.contents out.old) (W.contents out.new) (codes " " ++ decimal n)) }
+{
+    write!(out, " {n}")
 }
 
 // Writes the blank between entry `i` and the one before it.
-pub fn blank_before(out: &mut impl Write, i: usize) -> io::Result<()> {
-    if 0 < i {
-        text(out, b" ")?;
-    }
-    Ok(())
+pub fn blank_before<W: Write>(out: &mut W, i: usize) -> io::Result<()>
+    ensures { OnOk result (Appends (W.contents out.old) (W.contents out.new) (if nat_lt 0 i then codes " " else [])) }
+{
+    if 0 < i { text(out, b" ") } else { Ok(()) }
 }
 
 // Writes a refusal.
-pub fn refused(out: &mut impl Write, n: u32) -> io::Result<()> {
-    text(out, b"refused")?;
-    next_number(out, n as u64)
+pub fn refused<W: Write>(out: &mut W, n: u32) -> io::Result<()>
+    ensures { OnOk result (Appends (W.contents out.old) (W.contents out.new) (codes "refused " ++ decimal n)) }
+{
+    write!(out, "refused {n}")
 }
 
 // Writes the answer to a line that cannot be read as a case.
-pub fn unreadable(out: &mut impl Write) -> io::Result<()> {
+pub fn unreadable<W: Write>(out: &mut W) -> io::Result<()>
+    ensures { OnOk result (Appends (W.contents out.old) (W.contents out.new) (codes "unreadable")) }
+{
     text(out, b"unreadable")
 }

@@ -1,10 +1,12 @@
 // Reading the text of a case.
-ghost use Rattle.std.specs.Prelude.{◌≤◌, ◌<◌, length};
+ghost use Rattle.std.specs.Prelude.{ℕ, ◌≡◌, ◌≢◌, ◌≤◌, ◌<◌, length, slice_index};
 
 // The place of the first such byte from `from` on, or the length where there is none.
 pub fn find(text: &[u8], from: usize, byte: u8) -> usize
     requires { from ≤ length text.now }
-    ensures { (from ≤ result) × (result ≤ length text.now) }
+    ensures within { (from ≤ result) × (result ≤ length text.now) }
+    ensures before { (k : ℕ) → from ≤ k → k < result → slice_index text.now k ≢ byte }
+    ensures found { result < length text.now → slice_index text.now result ≡ byte }
 {
     for at in from..text.len() {
         if text[at] == byte {
