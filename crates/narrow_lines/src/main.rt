@@ -30,7 +30,8 @@ fn read_more<R: Read>(
     ensures kept { Keeps input.old size input.new result.size }
     ensures grows { result.ended ≡ false → size < result.size }
     ensures failed { IsNone failure.new → IsNone failure.old }
-    ensures brings { IsNone failure.new → Brings (R.remaining reader.old) (R.remaining reader.new) size input.new result.size result.ended }
+    ensures brings { IsNone failure.new
+        → Brings (R.remaining reader.old) (R.remaining reader.new) size input.new result.size result.ended }
 {
     match reader.read(&mut input[size..]) {
         Ok(more) => Held {
@@ -82,7 +83,8 @@ fn print_masks<R: Read, W: Write>(
     requires { (held.size ≤ length input.old) × (65536 ≤ length input.old) × (12294 ≤ length answer.old) }
     ensures failed { IsNone failure.new → IsNone failure.old }
     ensures prints { OnOk result (IsNone failure.new → Ends held.ended (R.remaining reader.old)
-        → PrintsMasks book.now first (take held.size input.old) (R.remaining reader.old) (W.contents writer.old) (W.contents writer.new)) }
+        → PrintsMasks book.now first (take held.size input.old) (R.remaining reader.old)
+        (W.contents writer.old) (W.contents writer.new)) }
 {
     let mut size = held.size;
     let mut ended = held.ended;
@@ -129,7 +131,8 @@ fn begin<R: Read>(
     ensures within { Within result.opened result.size (length book.new) (length out.new) }
     ensures failed { IsNone failure.new → IsNone failure.old }
     ensures begins { IsNone failure.new
-        → Begins (R.remaining reader.old) (R.remaining reader.new) (take result.size input.new) result.ended book.new out.new result.opened }
+        → Begins (R.remaining reader.old) (R.remaining reader.new) (take result.size input.new) result.ended
+        book.new out.new result.opened }
 {
     let mut size = 0;
     let mut ended = false;
