@@ -24,17 +24,19 @@ form: $(HOSTS)/form $(HEIGHTS)
 
 # Proves every crate that changed since it was last proved, and runs the cases.
 check:
-	@rt check
+	@rt all test
 
 # The archive that a C host links, of functions that are proved.
 lib:
-	@mkdir -p $(HOSTS)
-	@rt staticlib fekhvina > $(HOSTS)/lib.log 2>&1 || { cat $(HOSTS)/lib.log; exit 1; }
+	@mkdir -p $(HOSTS) $(dir $(LIB))
+	@cd crates/fekhvina && rt lib > ../../$(HOSTS)/lib.log 2>&1 || { cat ../../$(HOSTS)/lib.log; exit 1; }
+	@cmp -s crates/fekhvina/out/libfekhvina.a $(LIB) || cp crates/fekhvina/out/libfekhvina.a $(LIB)
 
 # The line program, proved.
 program:
-	@mkdir -p $(HOSTS)
-	@rt check narrow_lines > $(HOSTS)/program.log 2>&1 || { cat $(HOSTS)/program.log; exit 1; }
+	@mkdir -p $(HOSTS) $(dir $(PROGRAM))
+	@cd crates/narrow_lines && rt run < stdin > ../../$(HOSTS)/program.log 2>&1 || { cat ../../$(HOSTS)/program.log; exit 1; }
+	@cmp -s crates/narrow_lines/out/narrow_lines $(PROGRAM) || cp crates/narrow_lines/out/narrow_lines $(PROGRAM)
 
 # The last line of each of the next five is 'N passed, 0 failed'.
 
