@@ -5,7 +5,7 @@ ghost use Rattle.case_text.specs.Filled.{Within};
 use crate::text;
 
 // How many bytes of a buffer hold what was read, or that it cannot be read.
-#[derive(Drop)]
+#[derive(Clone, Copy)]
 pub enum Filled {
     Count(usize),
     Unreadable,

@@ -4,5 +4,6 @@
 pub mod buffer;
 pub mod case;
 pub mod hex;
+pub mod input;
 pub mod show;
 pub mod text;

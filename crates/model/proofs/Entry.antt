@@ -34,8 +34,8 @@ length_segments : (x : Block) → length (segments_of x) ≡ suc x.lower
 length_segments x = simp (length-append, length-replicate) (omega arith)
 
 -- behind the l + 1 entries of a block come those of the others
-getD-skip {ℓ} : {A : Type ℓ} (l a j : ℕ) (xs ys : List A) (d : A) → length xs ≡ suc l → get_or (xs ++ ys) (suc (l + a) + j) d ≡ get_or ys (a + j) d
-getD-skip l a j xs ys d e =
+get_or_skip {ℓ} : {A : Type ℓ} (l a j : ℕ) (xs ys : List A) (d : A) → length xs ≡ suc l → get_or (xs ++ ys) (suc (l + a) + j) d ≡ get_or ys (a + j) d
+get_or_skip l a j xs ys d e =
     let e' : suc (l + a) + j ≡ length xs + (a + j) = omega arith in
     rw (e', get_or-append-add)
 
@@ -51,7 +51,7 @@ segment_at : (xs : List Block) (i j : ℕ) → i < length xs → j ≤ (block_at
 segment_at [] i j h l = absurd (omega arith)
 segment_at (x ∷ xs) zero j h l = rw zero-add (get_or-append (segments_of x) (segments xs) (optional 0 0) j (omega (arith, length_segments x)))
 segment_at (x ∷ xs) (suc i) j h l =
-    getD-skip x.lower (begins xs i) j (segments_of x) (segments xs) (optional 0 0) (length_segments x) ∙ segment_at xs i j (omega arith) l
+    get_or_skip x.lower (begins xs i) j (segments_of x) (segments xs) (optional 0 0) (length_segments x) ∙ segment_at xs i j (omega arith) l
 
 -- and so do the parts of its piece
 part_at : {xs : List Block} {ps : List (List ℕ)} → Factorization xs ps → (i j : ℕ) → i < length xs → j ≤ (block_at xs i).lower
@@ -60,7 +60,7 @@ part_at done i j h l = absurd (omega arith)
 part_at (then {x} {xs} {p} {ps} g f) zero j h l =
     rw zero-add (get_or-append (along x.lower p) (chop xs ps) [] j (omega (arith, length_along x.lower p)))
 part_at (then {x} {xs} {p} {ps} g f) (suc i) j h l =
-    getD-skip x.lower (begins xs i) j (along x.lower p) (chop xs ps) [] (length_along x.lower p) ∙ part_at f i j (omega arith) l
+    get_or_skip x.lower (begins xs i) j (along x.lower p) (chop xs ps) [] (length_along x.lower p) ∙ part_at f i j (omega arith) l
 
 -- ---- mandatory places
 

@@ -12,7 +12,7 @@ use Rattle.narrow_lines.specs.Prints.{Ends, PrintsMasks}
 -- of the lines of what was held and left at first, some text is printed; the rest are the lines of what is held and left now
 pub record Owes (bs : List ℕ) (n₀ : ℕ) (held₀ xs : List ℕ) (w₀ : Option (List ℕ)) (n : ℕ) (held : List ℕ) (a w : Option (List ℕ)) : Type 0 where
   pub left : List ℕ
-  pub left-is : a ≡ Some left
+  pub left_is : a ≡ Some left
   pub text : List ℕ
   pub printed : Appends w₀ w text
   pub lines : lines_from bs n₀ (held₀ ++ xs) ≡ text ++ lines_from bs n (held ++ left)
@@ -26,7 +26,7 @@ pub record Going (bs : List ℕ) (n₀ : ℕ) (held₀ : List ℕ) (a₀ w₀ : 
 pub going_first : (bs : List ℕ) (n : ℕ) (held : List ℕ) (ended : Bool) (a w : Option (List ℕ)) → Ends ended a → Going bs n held a w n held ended a w
 going_first bs n held ended a w e = record {
   ends = e;
-  owes = λ xs is. record { left = xs; left-is = is; text = []; printed = Appends-nil w; lines = refl };
+  owes = λ xs is. record { left = xs; left_is = is; text = []; printed = Appends-nil w; lines = refl };
 }
 
 -- what a read leaves of known bytes
@@ -46,7 +46,7 @@ module _ (bs : List ℕ) (n₀ : ℕ) (held₀ : List ℕ) (a₀ w₀ : Option (
   turn : (xs : List ℕ) (o : Owes bs n₀ held₀ xs w₀ n held a w)
       → lines_from bs n₀ (held₀ ++ xs) ≡ (o.text ++ take p.size out) ++ remaining p.pause (lines_from bs p.number (drop p.taken held ++ o.left))
   turn xs o =
-      let later : Later ended o.left = λ t. rw o.left-is at (g.ends t) in
+      let later : Later ended o.left = λ t. rw o.left_is at (g.ends t) in
       o.lines ∙ ap (λ l. o.text ++ l) (step.lines o.left later) ∙ sym (append_assoc o.text (take p.size out) _)
 
   -- a turn that goes on, with the bytes that are read then
@@ -56,11 +56,11 @@ module _ (bs : List ℕ) (n₀ : ℕ) (held₀ : List ℕ) (a₀ w₀ : Option (
     ends = e;
     owes = λ xs is.
         let o = g.owes xs is in
-        let (zs, b-is, split) = lost b o.left more (rw o.left-is at c) in
+        let (zs, b-is, split) = lost b o.left more (rw o.left_is at c) in
         let front = drop p.taken held in
         record {
           left = zs;
-          left-is = b-is;
+          left_is = b-is;
           text = o.text ++ take p.size out;
           printed = Appends-trans w₀ w v o.text (take p.size out) o.printed wrote;
           lines =

@@ -106,7 +106,7 @@ fn print_masks<R: Read, W: Write>(
         ended = held.ended;
         number = next;
     }
-    Err(io::Error::other("gave up after 2^64 turns"))
+    Err(io::Error::other("gave up after 2^64 - 1 turns"))
 }
 
 // What the input begins with, and what is held then.

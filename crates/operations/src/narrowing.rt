@@ -91,7 +91,7 @@ pub(crate) fn narrow_blocks(
     requires ready { Ready book.now (blocks_of bases.old lowers.old uppers.old pair.mask.blocks) pair }
     requires lent { Lent pair.mask bases.old lowers.old uppers.old firsts.old sets.old known.old }
     ensures { let xs = blocks_of bases.old lowers.old uppers.old pair.mask.blocks in
-        Narrows (record { book = book.entry.now; blocks = xs; failing = 0 }) out.old out.new result }
+        Narrows (record { book = book.now; blocks = xs; failing = 0 }) out.old out.new result }
 {
     let passed = pass_blocks(pair, book, bases, lowers, uppers, firsts, sets, known);
     let accepting = pair.book.accepting;

@@ -7,16 +7,16 @@ mod letters;
 mod masks;
 
 use case_text::hex::Filled;
-use case_text::{case, hex, show, text};
+use case_text::{case, hex, input, show, text};
 use std::io;
-use std::io::{Read, Write};
+use std::io::Write;
 
 // Reads the cases and runs them.
 fn main(rt: HostRuntime) -> io::Result<()> {
-    let mut input = Vec::new(rt.alloc());
-    rt.stdin().read_to_end(&mut input)?;
+    let mut text = [0u8; 65536];
+    let size = input::read_full(&mut rt.stdin(), &mut text);
     let mut bytes = [0u8; 70000];
-    run_lines(&mut rt.stdout(), &input, &mut bytes)
+    run_lines(&mut rt.stdout(), &text[..size], &mut bytes)
 }
 
 // Runs the case of each line; `bytes` is room for what a case's hex text says.

@@ -15,15 +15,15 @@ mod masks;
 mod parts;
 
 use case_text::hex::Filled;
-use case_text::{case, show, text};
+use case_text::{case, input, show, text};
 use std::io;
-use std::io::{Read, Write};
+use std::io::Write;
 
 // Reads the cases and runs them.
 fn main(rt: HostRuntime) -> io::Result<()> {
-    let mut input = Vec::new(rt.alloc());
-    rt.stdin().read_to_end(&mut input)?;
-    run_lines(&mut rt.stdout(), &input)
+    let mut bytes = [0u8; 65536];
+    let size = input::read_full(&mut rt.stdin(), &mut bytes);
+    run_lines(&mut rt.stdout(), &bytes[..size])
 }
 
 // Runs the case of each line.

@@ -1,9 +1,8 @@
 -- `propagator::places::narrow_places` meets its contract.
-use mathlib.Core.Logic.{inl, inr}
 use native.Mathlib.Omega.{arith}
+use Rattle.std.proofs.lemmas.Grind.{common_steps}
 use Rattle.propagator.proofs.Placing.{becomes_more, placing_starts, placing_more, placing_ends}
 use Rattle.propagator.proofs.places.narrow_places.Goals as goal
-use Rattle.propagator.proofs.places.narrow_places.Goals.{then-before-kept, else-before-kept+else-states-kept}
 
 pub loop-j-init : goal.loop-j-init
 loop-j-init c = (c.requires.becomes, placing_starts _ _ _ _ _ _ _ _ _)
@@ -26,10 +25,7 @@ pub loop-j-preserved : goal.loop-j-preserved
 loop-j-preserved c =
     let (new, place) =
     becomes_more _ _ c.set_before-before.result c.loop-j.states _ _ c.loop-j.invariant.0
-    (elim c.if-before-kept.branch [
-      | then-before-kept w ↦ inl (rw w.kept-is w.narrow_place-kept.ensures)
-      | else-before-kept+else-states-kept w ↦ inr (w.if-before-kept.false, w.if-states-kept.false, w.kept-is)
-    ]) in (
+    (grind (arith, common_steps)) in (
       new,
       placing_more _ _ _ _ _ _ _ _ _ _ _ _ _ _ _ _ _ _ _ _ _ _ (omega arith) c.loop-j.invariant.1 c.requires.enough c.requires.places
           c.set_before-before.ensures place c.store.ensures.bases_after c.store.ensures.lowers_after c.store.ensures.uppers_after,
