@@ -1,4 +1,6 @@
 -- What document 01 means, in its order. Nothing here is proved; proofs/ shows what follows.
+pub mod Text
+pub mod Refusal
 pub mod Set
 pub mod DashedString
 pub mod Automaton

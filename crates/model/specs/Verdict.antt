@@ -7,6 +7,7 @@ use Rattle.model.specs.Set.{has, some_member, one_member}
 use Rattle.model.specs.Automaton.{Dfa}
 use Rattle.model.specs.Passes.{finals, narrowed_list}
 use Rattle.model.specs.NormalForm.{normal}
+use Rattle.model.specs.Text.{ascii}
 
 -- the verdicts' numbers at the host (01, "Records")
 abbrev pub number : Verdict → ℕ
@@ -14,6 +15,13 @@ number None = 1
 number All = 2
 number One = 3
 number Some = 4
+
+-- and their words in the line program
+abbrev pub word : Verdict → List ℕ
+word None = ascii "none"
+word All = ascii "all"
+word One = ascii "one"
+word Some = ascii "some"
 
 -- the narrowed mask: the normal form of the narrowed list
 unfoldable pub narrowed_mask : Dfa → List Block → List Block

@@ -1,0 +1,10 @@
+-- Text as bytes.
+use Rattle.std.specs.Prelude.{ℕ, List, [], ◌∷◌}
+use Prim.Native.Char.{code}
+use Prim.Native.String.{String}
+use Prim.Native.String as string
+
+-- the bytes of a text of ASCII characters
+abbrev pub ascii : String → List ℕ
+ascii string.[] = []
+ascii (string.◌∷◌ c s) = code c ∷ ascii s
