@@ -1,29 +1,32 @@
 -- Which check decides, and what those that pass tell.
 -- Assumes nothing.
-use Rattle.std.proofs.Common.{◌≡◌, ℕ, zero, suc, ◌*◌, ◌<◌, ◌≤◌, Bool, true, false, not, ◌||◌, T, eqb, ltb, ◌↔◌, List, [], ◌∷◌, length, get_or, refl, ◌∙◌, true≢false, mul-le-mul, lt_of_not-le, arith, ltb-false, le-ltb, lt-ltb, eq-eqb, ne_eqb, eqb-true}
+use Rattle.std.proofs.Common.{◌≡◌, ℕ, zero, suc, ◌*◌, ◌<◌, ◌≤◌, Bool, true, false, not, ◌||◌, T, eqb, ltb, Option, Some, ◌↔◌, List, [], ◌∷◌, length, get_or, refl, ◌∙◌, true≢false, mul-le-mul, lt_of_not-le, arith, ltb-false, le-ltb, lt-ltb, eq-eqb, ne_eqb, eqb-true}
 use borrow.Author.Tests.{not-false}
 use lib.Dec.{eqb-suc-zero}
 use Rattle.model.specs.declared.Block.{Block}
+use Rattle.model.specs.declared.Refusal.{Refusal}
+use Rattle.model.specs.declared.Refusal.TheVariants.{Unframed, Kind, Head}
+use Rattle.model.specs.Refusal.{accepted, refuse}
 use Rattle.model.specs.Set.{Member, some_from}
 use Rattle.model.specs.DashedString.{Each}
 use Rattle.bitset.proofs.Laws.{some_from_lem}
 use Rattle.records.specs.declared.Book.{Book}
-use Rattle.records.specs.Check.{refuse, some, length_field, kind, unframed}
+use Rattle.records.specs.Check.{some, length_field, kind, unframed}
 use Rattle.records.specs.Book.{outside, out_of_range}
 
 -- no refusal: this check doesn't fail, and the next ones don't refuse
-pub peel : (t : Bool) (k r : ℕ) → refuse t (suc k) r ≡ 0 → (t ≡ false) × (r ≡ 0)
+pub peel : (t : Bool) (k : Refusal) (r : Option Refusal) → refuse t k r ≡ accepted → (t ≡ false) × (r ≡ accepted)
 unfolding refuse
-peel true k r h = absurd (omega arith)
+peel true k r h = cc
 peel false k r h = (refl, h)
 
 -- a check that fails decides
-pub on : (t : Bool) (k r : ℕ) → t ≡ true → refuse t k r ≡ k
+pub on : (t : Bool) (k : Refusal) (r : Option Refusal) → t ≡ true → refuse t k r ≡ Some k
 unfolding refuse
 on t k r e = rw e
 
 -- one that passes leaves it to the next
-pub off : (t : Bool) (k r : ℕ) → t ≡ false → refuse t k r ≡ r
+pub off : (t : Bool) (k : Refusal) (r : Option Refusal) → t ≡ false → refuse t k r ≡ r
 unfolding refuse
 off t k r e = rw e
 
@@ -35,19 +38,19 @@ pub is_not : (a b : ℕ) → (a ≡ b → ⊥) → not (eqb a b) ≡ true
 is_not a b h = rw (ne_eqb a b h)
 
 -- the first three checks of a record of kind k with at least so many bytes, before the rest
-module _ (bs : List ℕ) (k least rest : ℕ) where
-  abbrev three : ℕ
-  three = refuse (unframed bs) 1 (refuse (not (eqb (kind bs) k)) 2 (refuse (ltb (length bs) least) 3 rest))
+module _ (bs : List ℕ) (k least : ℕ) (rest : Option Refusal) where
+  abbrev three : Option Refusal
+  three = refuse (unframed bs) Unframed (refuse (not (eqb (kind bs) k)) Kind (refuse (ltb (length bs) least) Head rest))
 
-  pub first : unframed bs ≡ true → three ≡ 1
+  pub first : unframed bs ≡ true → three ≡ Some Unframed
   first e = on _ _ _ e
 
   module _ (framed : unframed bs ≡ false) where
-    pub second : (kind bs ≡ k → ⊥) → three ≡ 2
+    pub second : (kind bs ≡ k → ⊥) → three ≡ Some Kind
     second h = off _ _ _ framed ∙ on _ _ _ (is_not (kind bs) k h)
 
     module _ (right : kind bs ≡ k) where
-      pub third : length bs < least → three ≡ 3
+      pub third : length bs < least → three ≡ Some Head
       third h = off _ _ _ framed ∙ off _ _ _ (is (kind bs) k right) ∙ on _ _ _ (lt-ltb (length bs) least h)
 
       pub past_three : least ≤ length bs → three ≡ rest

@@ -13,6 +13,4 @@ pub mod Steps
 pub mod Walk
 pub mod Taking
 pub mod Next
-pub mod BookChecks
-pub mod MaskChecks
 pub mod Answers

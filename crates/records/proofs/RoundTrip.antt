@@ -2,6 +2,7 @@
 -- Assumes nothing.
 use Rattle.std.proofs.Common.{◌≡◌, ℕ, zero, suc, ◌+◌, ◌*◌, ◌/◌, ◌^◌, ◌<◌, false, List, [], ◌∷◌, ◌++◌, length, refl, ◌∙◌, ap₂, add_assoc, arith}
 use Rattle.model.specs.declared.Block.{Block}
+use Rattle.model.specs.Refusal.{accepted}
 use Rattle.model.specs.DashedString.{block, Bounded}
 use Rattle.model.specs.Size.{WellFormed, Room, Fits}
 use Rattle.records.specs.Bytes.{Bytes, number_at, bytes_of}
@@ -74,7 +75,7 @@ module _ (m : ℕ) (xs : List Block) (h : Fits m xs) where
 
 -- a mask that fits, written and read: not refused, the same, and no letter m or above
 pub reads_back : (m : ℕ) (xs : List Block) → Fits m xs
-    → (mask_refusal (mask_bytes xs) ≡ 0) × (mask_of (mask_bytes xs) ≡ xs) × (foreign m (mask_of (mask_bytes xs)) ≡ false)
+    → (mask_refusal (mask_bytes xs) ≡ accepted) × (mask_of (mask_bytes xs) ≡ xs) × (foreign m (mask_of (mask_bytes xs)) ≡ false)
 reads_back m xs h = (
   record_mask (mask_bytes xs) (record_back m xs h),
   mask_back m xs h,

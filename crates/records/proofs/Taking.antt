@@ -3,13 +3,14 @@
 use Rattle.std.proofs.Common.{◌≡◌, ℕ, ◌+◌, ◌-◌, ◌*◌, ◌<◌, ◌≤◌, false, ◌||◌, List, [], ◌∷◌, length, get_or, sym, refl, ◌∙◌, inl, inr, ⊎_elim, add-zero, add_assoc, add-one, arith}
 use mathlib.Core.Bool.{or-false, or_assoc}
 use Rattle.model.specs.declared.Block.{Block}
+use Rattle.model.specs.Refusal.{unless}
 use Rattle.model.specs.Set.{either, some_from}
 use Rattle.model.specs.Size.{uppers}
 use Rattle.model.proofs.Set.{T_or, in_none, in_either}
 use Rattle.bitset.proofs.Laws.{same_test, some_from_lem}
 use Rattle.records.specs.declared.totals.Totals.{Totals}
 use Rattle.records.specs.Check.{some}
-use Rattle.records.specs.Mask.{block_from, blocks_from, crossed, blocks_refusal, with_letters, mask_or, read_blocks, foreign}
+use Rattle.records.specs.Mask.{block_from, blocks_from, crossed, blocks_refusal, with_letters, read_blocks, foreign}
 use Rattle.records.specs.Totals.{totals, with_block, totals_refusal}
 use Rattle.records.specs.Written.{numbered, blocks_of, blocks_between, Enough}
 use Rattle.records.proofs.Checks.{none_from}
@@ -104,7 +105,7 @@ module _ (b l u : List ℕ) (count : ℕ) where
 
 -- blocks as a mask, by how many there are and by their totals: checks 7 and 8
 pub by_totals : (xs : List Block) (k : ℕ) (t : Totals) → k ≡ length xs → t ≡ totals xs
-    → mask_or (record { blocks = k; uppers = t.uppers; used = t.used }) (totals_refusal t) ≡ read_blocks xs
+    → unless (totals_refusal t) (record { blocks = k; uppers = t.uppers; used = t.used }) ≡ read_blocks xs
 unfolding blocks_refusal read_blocks totals_refusal
 by_totals xs k t e n = rw (e, n)
 

@@ -3,6 +3,7 @@
 use Rattle.std.proofs.Common.{◌≡◌, ℕ, zero, suc, ◌+◌, ◌*◌, ◌^◌, ◌<◌, ◌≤◌, Bool, true, false, not, ◌&&◌, ◌||◌, eqb, leb, ◌⊎◌, ◌↔◌, List, [], ◌∷◌, length, get_or, refl, ◌∙◌, inl, inr, ⊎_elim, arith, length-drop, ltb-false, le-ltb, eq-eqb, ne_eqb, eqb-true, leb-false}
 use borrow.Author.Tests.{lt-leb, not-false}
 use Rattle.model.specs.declared.Block.{Block}
+use Rattle.model.specs.Refusal.{accepted}
 use Rattle.model.specs.Set.{Member, some_from}
 use Rattle.model.specs.DashedString.{values, Each, Bounded}
 use Rattle.model.specs.Automaton.{Dfa}
@@ -54,7 +55,7 @@ naming b moves = (λ e. let (h, k) = outer.0 e in (inner.0 h, k), λ (h, k). out
     outer = neither (leb b.states b.start || some_from b.accepting b.states) (some (stray b.states) moves)
 
 -- what is not refused as a book is a well-formed record
-pub book_record : (bs : List ℕ) → book_refusal bs ≡ 0 → BookRecord bs
+pub book_record : (bs : List ℕ) → book_refusal bs ≡ accepted → BookRecord bs
 unfolding moves_of book_checks
 book_record bs h =
     let b = book_head bs in
@@ -84,7 +85,7 @@ book_record bs h =
     }
 
 -- and no well-formed record is refused
-pub record_book : (bs : List ℕ) → BookRecord bs → book_refusal bs ≡ 0
+pub record_book : (bs : List ℕ) → BookRecord bs → book_refusal bs ≡ accepted
 unfolding moves_of book_checks
 record_book bs t =
     let b = book_head bs in
@@ -110,7 +111,7 @@ uncrossed : (xs : List Block) → (some crossed xs ≡ false) ↔ Each Bounded x
 uncrossed xs = none_each crossed Bounded (λ x. (ltb-false x.upper x.lower, le-ltb x.upper x.lower)) xs
 
 -- checks 7 and 8 leave blocks with l ≤ u, and uppers that sum to at most 1,024
-pub blocks_bounds : (xs : List Block) → blocks_refusal xs ≡ 0 → Each Bounded xs × (uppers xs ≤ 1024)
+pub blocks_bounds : (xs : List Block) → blocks_refusal xs ≡ accepted → Each Bounded xs × (uppers xs ≤ 1024)
 unfolding blocks_refusal
 blocks_bounds xs h =
     let (bounds, h) = peel _ _ _ h in
@@ -118,12 +119,12 @@ blocks_bounds xs h =
     ((uncrossed xs).0 bounds, ltb-false 1024 (uppers xs) sum)
 
 -- and refuse no such blocks
-bounds_blocks : (xs : List Block) → Each Bounded xs → uppers xs ≤ 1024 → blocks_refusal xs ≡ 0
+bounds_blocks : (xs : List Block) → Each Bounded xs → uppers xs ≤ 1024 → blocks_refusal xs ≡ accepted
 unfolding blocks_refusal
 bounds_blocks xs bounds sum = off _ _ _ ((uncrossed xs).1 bounds) ∙ off _ _ _ (le-ltb 1024 (uppers xs) sum)
 
 -- what is not refused as a mask is a well-formed record
-pub mask_record : (bs : List ℕ) → mask_refusal bs ≡ 0 → MaskRecord bs
+pub mask_record : (bs : List ℕ) → mask_refusal bs ≡ accepted → MaskRecord bs
 unfolding mask_refusal
 mask_record bs h =
     let (frame, h) = peel _ _ _ h in
@@ -142,7 +143,7 @@ mask_record bs h =
     }
 
 -- and no well-formed record is refused
-pub record_mask : (bs : List ℕ) → MaskRecord bs → mask_refusal bs ≡ 0
+pub record_mask : (bs : List ℕ) → MaskRecord bs → mask_refusal bs ≡ accepted
 unfolding mask_refusal
 record_mask bs t =
     past_three bs 2 6 _ ((framing bs).1 (omega arith, t.framed)) t.kind (omega arith)
@@ -151,11 +152,11 @@ record_mask bs t =
     ∙ bounds_blocks (mask_of bs) t.bounds t.sum
 
 -- so its blocks pass checks 7 and 8
-pub mask_blocks : (bs : List ℕ) → mask_refusal bs ≡ 0 → blocks_refusal (mask_of bs) ≡ 0
+pub mask_blocks : (bs : List ℕ) → mask_refusal bs ≡ accepted → blocks_refusal (mask_of bs) ≡ accepted
 mask_blocks bs h = let t = mask_record bs h in bounds_blocks (mask_of bs) t.bounds t.sum
 
 -- the hypotheses of demand 3, for a book that is not refused and blocks with l ≤ u
-pub checked : (bs : List ℕ) (xs : List Block) → book_refusal bs ≡ 0 → Each Bounded xs → Checked (book_of bs) xs
+pub checked : (bs : List ℕ) (xs : List Block) → book_refusal bs ≡ accepted → Each Bounded xs → Checked (book_of bs) xs
 checked bs xs h bounds =
     let s = (book_record bs h).sound in
     record { states = s.states; start = s.start; bounds = bounds }
@@ -193,19 +194,19 @@ formed m [] bounds bytes letters = tt
 formed m (x ∷ xs) (h, bounds) (k, bytes) (l, letters) = (record { bounds = h; bytes = k; letters = l }, formed m xs bounds bytes letters)
 
 -- at most 1,024 blocks of 8-byte sets that are not refused, with letters below m, fit a record
-pub blocks_fit : (m : ℕ) (xs : List Block) → Each Wide xs → length xs ≤ 1024 → blocks_refusal xs ≡ 0 → foreign m xs ≡ false → Fits m xs
+pub blocks_fit : (m : ℕ) (xs : List Block) → Each Wide xs → length xs ≤ 1024 → blocks_refusal xs ≡ accepted → foreign m xs ≡ false → Fits m xs
 blocks_fit m xs wide few r f =
     let (bounds, sum) = blocks_bounds xs r in
     record { few = few; room = record { each = formed m xs bounds wide ((none_foreign m xs).0 f); sum = sum } }
 
 -- a mask that is not refused, with letters below m, fits a record
-pub record_fits : (m : ℕ) (ms : List ℕ) → Bytes ms → mask_refusal ms ≡ 0 → foreign m (mask_of ms) ≡ false → Fits m (mask_of ms)
+pub record_fits : (m : ℕ) (ms : List ℕ) → Bytes ms → mask_refusal ms ≡ accepted → foreign m (mask_of ms) ≡ false → Fits m (mask_of ms)
 unfolding mask_of
 record_fits m ms h r f =
     let t = mask_record ms r in
     blocks_fit m (mask_of ms) (each_bytes ms h (count ms) 6) (omega (arith, blocks_counted ms)) (mask_blocks ms r) f
 
 -- every letter is below 64, so every mask that is not refused fits one
-pub record_fits_64 : (ms : List ℕ) → Bytes ms → mask_refusal ms ≡ 0 → Fits 64 (mask_of ms)
+pub record_fits_64 : (ms : List ℕ) → Bytes ms → mask_refusal ms ≡ accepted → Fits 64 (mask_of ms)
 record_fits_64 ms h r =
     record_fits 64 ms h r ((none_foreign 64 (mask_of ms)).1 (each_map Bounded (Native 64) (λ x b c m. m.small) (mask_of ms) (mask_record ms r).bounds))

@@ -1,12 +1,13 @@
 -- Kind 1 records: the automaton that one is, and the book checks (01, "Records" and "The four operations").
-use Rattle.std.specs.Prelude.{ℕ, zero, suc, ◌+◌, ◌*◌, Bool, not, ◌&&◌, ◌||◌, List, length, drop, ◌==◌, nat_le, nat_lt}
+use Rattle.std.specs.Prelude.{ℕ, ◌+◌, ◌*◌, Bool, not, ◌&&◌, ◌||◌, Option, Result, List, length, drop, ◌==◌, nat_le, nat_lt}
+use Rattle.model.specs.declared.Refusal.{Refusal}
+use Rattle.model.specs.declared.Refusal.TheVariants.{Unframed, Kind, Head, OutOfRange, Size, Unnamed}
+use Rattle.model.specs.Refusal.{accepted, refuse, unless}
 use Rattle.model.specs.Set.{some_from}
 use Rattle.model.specs.Automaton.{Table, Dfa}
 use Rattle.records.specs.declared.Book.{Book}
-use Rattle.records.specs.declared.BookOrRefusal.{BookOrRefusal}
-use Rattle.records.specs.declared.BookOrRefusal.TheVariants.{Accepted, Refused}
 use Rattle.records.specs.Bytes.{byte_at, number_at}
-use Rattle.records.specs.Check.{refuse, some, kind, unframed}
+use Rattle.records.specs.Check.{some, kind, unframed}
 
 -- the numbers of a kind 1 record: n, m, start, accepting states
 unfoldable pub book_head : List ℕ → Book
@@ -45,30 +46,20 @@ unfoldable pub unnamed : Book → List ℕ → Bool
 unnamed b moves = nat_le b.states b.start || some_from b.accepting b.states || some (stray b.states) moves
 
 -- the book checks, 1 to 6, of a record with this head
-unfoldable pub book_checks : List ℕ → Book → ℕ
+unfoldable pub book_checks : List ℕ → Book → Option Refusal
 book_checks bs b =
-    refuse (unframed bs) 1
-    (refuse (not (kind bs == 1)) 2
-    (refuse (nat_lt (length bs) 15) 3
-    (refuse (out_of_range b) 4
-    (refuse (not (length bs == 15 + b.states * b.letters)) 5
-    (refuse (unnamed b (moves_of bs)) 6
-    0)))))
+    refuse (unframed bs) Unframed
+    (refuse (not (kind bs == 1)) Kind
+    (refuse (nat_lt (length bs) 15) Head
+    (refuse (out_of_range b) OutOfRange
+    (refuse (not (length bs == 15 + b.states * b.letters)) Size
+    (refuse (unnamed b (moves_of bs)) Unnamed
+    accepted)))))
 
--- the refusal number of a slice of bytes as a book, 0 for none
-abbrev pub book_refusal : List ℕ → ℕ
+-- what refuses a slice of bytes as a book
+abbrev pub book_refusal : List ℕ → Option Refusal
 book_refusal bs = book_checks bs (book_head bs)
 
--- a book, or its refusal
-abbrev pub book_or : Book → ℕ → BookOrRefusal
-book_or b zero = Accepted b
-book_or b (suc r) = Refused (suc r)
-
 -- a slice of bytes as a book, or its refusal
-unfoldable pub read_book : List ℕ → BookOrRefusal
-read_book bs = book_or (book_head bs) (book_refusal bs)
-
--- the refusal number of an answer, 0 for a book
-abbrev pub book_number : BookOrRefusal → ℕ
-book_number (Accepted b) = 0
-book_number (Refused r) = r
+unfoldable pub read_book : List ℕ → Result Book Refusal
+read_book bs = unless (book_refusal bs) (book_head bs)

@@ -1,10 +1,6 @@
--- Checks in order (01, "The four operations and when they turn back"), and what books and masks share of them.
-use Rattle.std.specs.Prelude.{ℕ, Bool, false, cond, not, ◌||◌, List, [], ◌∷◌, length, ◌==◌, nat_lt}
+-- What the checks of books and masks share (01, "The four operations and when they turn back").
+use Rattle.std.specs.Prelude.{ℕ, Bool, false, not, ◌||◌, List, [], ◌∷◌, length, ◌==◌, nat_lt}
 use Rattle.records.specs.Bytes.{number_at}
-
--- one check: its number where it fails, else what the next checks say; 0 is no refusal
-unfoldable pub refuse : Bool → ℕ → ℕ → ℕ
-refuse fails number rest = cond fails number rest
 
 -- some element passes the test
 unfoldable pub some : {A : Type 0} → (A → Bool) → List A → Bool

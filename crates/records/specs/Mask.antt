@@ -1,14 +1,15 @@
 -- Kind 2 records: the blocks that one is, and the mask checks (01, "Records" and "The four operations").
-use Rattle.std.specs.Prelude.{ℕ, zero, suc, ◌+◌, ◌*◌, Bool, not, List, [], ◌∷◌, length, ◌==◌, nat_lt}
+use Rattle.std.specs.Prelude.{ℕ, zero, suc, ◌+◌, ◌*◌, Bool, not, Option, Result, List, [], ◌∷◌, length, ◌==◌, nat_lt}
 use Rattle.model.specs.declared.Block.{Block}
+use Rattle.model.specs.declared.Refusal.{Refusal}
+use Rattle.model.specs.declared.Refusal.TheVariants.{Unframed, Kind, Head, OutOfRange, Size, Crossed, Uppers}
+use Rattle.model.specs.Refusal.{accepted, refuse, unless}
 use Rattle.model.specs.Set.{either, some_from}
 use Rattle.model.specs.DashedString.{block}
 use Rattle.model.specs.Size.{uppers}
 use Rattle.records.specs.declared.Mask.{Mask}
-use Rattle.records.specs.declared.MaskOrRefusal.{MaskOrRefusal}
-use Rattle.records.specs.declared.MaskOrRefusal.TheVariants.{Accepted, Refused}
 use Rattle.records.specs.Bytes.{number_at}
-use Rattle.records.specs.Check.{refuse, some, kind, unframed}
+use Rattle.records.specs.Check.{some, kind, unframed}
 
 -- the number of blocks: 2 bytes
 abbrev pub count : List ℕ → ℕ
@@ -32,20 +33,20 @@ abbrev pub crossed : Block → Bool
 crossed x = nat_lt x.upper x.lower
 
 -- the checks of blocks: 7 and 8
-unfoldable pub blocks_refusal : List Block → ℕ
+unfoldable pub blocks_refusal : List Block → Option Refusal
 blocks_refusal xs =
-    refuse (some crossed xs) 7
-    (refuse (nat_lt 1024 (uppers xs)) 8
-    0)
+    refuse (some crossed xs) Crossed
+    (refuse (nat_lt 1024 (uppers xs)) Uppers
+    accepted)
 
 -- the mask checks: 1 to 5, 7 and 8
-unfoldable pub mask_refusal : List ℕ → ℕ
+unfoldable pub mask_refusal : List ℕ → Option Refusal
 mask_refusal bs =
-    refuse (unframed bs) 1
-    (refuse (not (kind bs == 2)) 2
-    (refuse (nat_lt (length bs) 6) 3
-    (refuse (nat_lt 1024 (count bs)) 4
-    (refuse (not (length bs == 6 + 12 * count bs)) 5
+    refuse (unframed bs) Unframed
+    (refuse (not (kind bs == 2)) Kind
+    (refuse (nat_lt (length bs) 6) Head
+    (refuse (nat_lt 1024 (count bs)) OutOfRange
+    (refuse (not (length bs == 6 + 12 * count bs)) Size
     (blocks_refusal (mask_of bs))))))
 
 -- a set, and the letters that some block's set has
@@ -57,23 +58,13 @@ with_letters s (x ∷ xs) = with_letters (either s x.base) xs
 abbrev pub numbers_of : List Block → Mask
 numbers_of xs = record { blocks = length xs; uppers = uppers xs; used = with_letters 0 xs }
 
--- a mask, or its refusal
-abbrev pub mask_or : Mask → ℕ → MaskOrRefusal
-mask_or x zero = Accepted x
-mask_or x (suc r) = Refused (suc r)
-
 -- a slice of bytes as a mask, or its refusal
-unfoldable pub read_mask : List ℕ → MaskOrRefusal
-read_mask bs = mask_or (numbers_of (mask_of bs)) (mask_refusal bs)
+unfoldable pub read_mask : List ℕ → Result Mask Refusal
+read_mask bs = unless (mask_refusal bs) (numbers_of (mask_of bs))
 
 -- blocks as a mask, or their refusal
-unfoldable pub read_blocks : List Block → MaskOrRefusal
-read_blocks xs = mask_or (numbers_of xs) (blocks_refusal xs)
-
--- the refusal number of an answer, 0 for a mask
-abbrev pub mask_number : MaskOrRefusal → ℕ
-mask_number (Accepted x) = 0
-mask_number (Refused r) = r
+unfoldable pub read_blocks : List Block → Result Mask Refusal
+read_blocks xs = unless (blocks_refusal xs) (numbers_of xs)
 
 -- the block's set has a letter m or above
 abbrev pub beyond : ℕ → Block → Bool

@@ -22,31 +22,23 @@ pub(crate) fn head(bytes: &[u8]) -> Book
 fn outside(most: usize, x: usize) -> bool
     ensures { result ≡ spec.outside most x }
 {
-    if x == 0 {
-        return true;
-    }
-    most < x
+    x == 0 || most < x
 }
 
 // Check 4: whether n or m is outside its range.
+#[tactic(auto, unfolding(crate::specs::Book::out_of_range))]
 pub(crate) fn out_of_range(book: Book) -> bool
     ensures { result ≡ spec.out_of_range book }
 {
-    if outside(63, book.states) {
-        return true;
-    }
-    outside(64, book.letters)
+    outside(63, book.states) || outside(64, book.letters)
 }
 
 // Check 6: whether the start, an accepting bit or a move names no state.
+#[tactic(auto, unfolding(crate::specs::Book::unnamed))]
 pub(crate) fn unnamed(book: Book, moves: &[u8]) -> bool
     ensures { result ≡ spec.unnamed book moves.now }
 {
-    if book.states <= book.start {
-        return true;
-    }
-    if bitset::some_from(book.accepting, book.states) {
-        return true;
-    }
-    moves::some_stray(book.states, moves)
+    book.states <= book.start
+        || bitset::some_from(book.accepting, book.states)
+        || moves::some_stray(book.states, moves)
 }

@@ -5,13 +5,11 @@ ghost use Rattle.records.specs.Check as spec;
 use crate::number;
 
 // Check 1: whether there are fewer than 4 bytes, or the length field isn't their number.
+#[tactic(auto, unfolding(crate::specs::Check::unframed))]
 pub(crate) fn unframed(bytes: &[u8]) -> bool
     ensures { result ≡ spec.unframed bytes.now }
 {
-    if bytes.len() < 4 {
-        return true;
-    }
-    length_field(bytes) != bytes.len()
+    bytes.len() < 4 || length_field(bytes) != bytes.len()
 }
 
 // The length field of a record.

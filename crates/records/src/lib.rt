@@ -3,12 +3,13 @@
 #![tactic(auto)]
 
 ghost use Rattle.std.specs.Prelude.{◌≡◌, ◌+◌, ◌*◌, ◌<◌, ◌≤◌, length};
+ghost use Rattle.model.specs.Refusal.{unless};
 ghost use Rattle.model.specs.Set.{some_from};
 ghost use Rattle.model.specs.DashedString.{block_at};
 ghost use Rattle.model.specs.Automaton.{next};
 ghost use Rattle.records.specs.Bytes.{over};
-ghost use Rattle.records.specs.Book.{table_of, read_book, book_number};
-ghost use Rattle.records.specs.Mask.{count, mask_of, mask_or, read_mask, read_blocks, mask_number};
+ghost use Rattle.records.specs.Book.{table_of, read_book};
+ghost use Rattle.records.specs.Mask.{count, mask_of, read_mask, read_blocks};
 ghost use Rattle.records.specs.Totals.{totals_refusal};
 ghost use Rattle.records.specs.Written.{mask_bytes, blocks_of, Enough};
 
@@ -21,7 +22,7 @@ mod totals;
 mod writer;
 
 pub use frame::length_field;
-use model::Block;
+use model::{Block, Refusal};
 use totals::Totals;
 
 // The numbers of a kind 1 record (a book): n, m, the start and the accepting states. Its moves stay in the slice.
@@ -33,13 +34,6 @@ pub struct Book {
     pub accepting: u64,
 }
 
-// What a slice is as a book.
-#[derive(Clone, Copy)]
-pub enum BookOrRefusal {
-    Accepted(Book),
-    Refused(u32),
-}
-
 // The numbers of a mask: how many blocks, the sum of their upper bounds, and the letters that some set has. Its blocks stay
 // where they are.
 #[derive(Clone, Copy)]
@@ -49,65 +43,65 @@ pub struct Mask {
     pub used: u64,
 }
 
-// What a slice is as a mask.
-#[derive(Clone, Copy)]
-pub enum MaskOrRefusal {
-    Accepted(Mask),
-    Refused(u32),
-}
-
-// A slice as a book, or the number of the first book check that fails.
-pub fn read_book(bytes: &[u8]) -> BookOrRefusal
+// A slice as a book, or the first book check that fails.
+#[tactic(auto, using(crate::proofs::Checks::framing, crate::proofs::Checks::few_moves, crate::proofs::Over::part_rest), unfolding(model::specs::Refusal::refuse, crate::specs::Book::read_book, crate::specs::Book::book_checks, crate::specs::Book::moves_of))]
+pub fn read_book(bytes: &[u8]) -> Result<Book, Refusal>
     ensures { result ≡ read_book bytes.now }
 {
     if frame::unframed(bytes) {
-        return BookOrRefusal::Refused(1);
+        return Err(Refusal::Unframed);
     }
     if frame::kind(bytes) != 1 {
-        return BookOrRefusal::Refused(2);
+        return Err(Refusal::Kind);
     }
     if bytes.len() < 15 {
-        return BookOrRefusal::Refused(3);
+        return Err(Refusal::Head);
     }
     let book = automaton::head(bytes);
     if automaton::out_of_range(book) {
-        return BookOrRefusal::Refused(4);
+        return Err(Refusal::OutOfRange);
     }
     if bytes.len() != 15 + book.states * book.letters {
-        return BookOrRefusal::Refused(5);
+        return Err(Refusal::Size);
     }
     if automaton::unnamed(book, &bytes[15..]) {
-        return BookOrRefusal::Refused(6);
+        return Err(Refusal::Unnamed);
     }
-    BookOrRefusal::Accepted(book)
+    Ok(book)
 }
 
-// A slice as a mask, or the number of the first mask check that fails.
-pub fn read_mask(bytes: &[u8]) -> MaskOrRefusal
+// A slice as a mask, or the first mask check that fails.
+#[tactic(auto, using(crate::proofs::Checks::framing, crate::proofs::Offsets::blocks_counted), unfolding(model::specs::Refusal::refuse, crate::specs::Mask::read_mask, crate::specs::Mask::mask_refusal, crate::specs::Mask::blocks_refusal, crate::specs::Mask::mask_of, crate::specs::Totals::totals_refusal))]
+pub fn read_mask(bytes: &[u8]) -> Result<Mask, Refusal>
     ensures { result ≡ read_mask bytes.now }
 {
     if frame::unframed(bytes) {
-        return MaskOrRefusal::Refused(1);
+        return Err(Refusal::Unframed);
     }
     if frame::kind(bytes) != 2 {
-        return MaskOrRefusal::Refused(2);
+        return Err(Refusal::Kind);
     }
     if bytes.len() < 6 {
-        return MaskOrRefusal::Refused(3);
+        return Err(Refusal::Head);
     }
     let blocks = number::read(bytes, 4, 2) as usize;
     if 1024 < blocks {
-        return MaskOrRefusal::Refused(4);
+        return Err(Refusal::OutOfRange);
     }
     if bytes.len() != 6 + 12 * blocks {
-        return MaskOrRefusal::Refused(5);
+        return Err(Refusal::Size);
     }
     mask_of(blocks, totals::of_record(bytes, blocks))
 }
 
-// The first `count` blocks, whose sets and bounds the three slices hold, as a mask, or the number of the first check that
-// fails: 7 and 8.
-pub fn check_blocks(bases: &[u64], lowers: &[u16], uppers: &[u16], count: usize) -> MaskOrRefusal
+// The first `count` blocks, whose sets and bounds the three slices hold, as a mask, or the first check that fails: 7 and 8.
+#[tactic(auto, using(crate::proofs::Stores::length_values), unfolding(crate::specs::Mask::read_blocks, crate::specs::Mask::blocks_refusal, crate::specs::Totals::totals_refusal))]
+pub fn check_blocks(
+    bases: &[u64],
+    lowers: &[u16],
+    uppers: &[u16],
+    count: usize,
+) -> Result<Mask, Refusal>
     requires { (count ≤ 1024) × Enough bases.now lowers.now uppers.now count }
     ensures { result ≡ read_blocks (blocks_of bases.now lowers.now uppers.now count) }
 {
@@ -115,40 +109,21 @@ pub fn check_blocks(bases: &[u64], lowers: &[u16], uppers: &[u16], count: usize)
 }
 
 // A mask by its number of blocks and its totals. Checks 7 and 8.
-fn mask_of(blocks: usize, totals: Totals) -> MaskOrRefusal
-    ensures { result ≡ mask_or (record { blocks = blocks; uppers = totals.uppers; used = totals.used }) (totals_refusal totals) }
+#[tactic(auto, unfolding(model::specs::Refusal::refuse, crate::specs::Totals::totals_refusal))]
+fn mask_of(blocks: usize, totals: Totals) -> Result<Mask, Refusal>
+    ensures { result ≡ unless (totals_refusal totals) (record { blocks = blocks; uppers = totals.uppers; used = totals.used }) }
 {
     if totals.crossed {
-        return MaskOrRefusal::Refused(7);
+        return Err(Refusal::Crossed);
     }
     if 1024 < totals.uppers {
-        return MaskOrRefusal::Refused(8);
+        return Err(Refusal::Uppers);
     }
-    MaskOrRefusal::Accepted(Mask {
+    Ok(Mask {
         blocks,
         uppers: totals.uppers,
         used: totals.used,
     })
-}
-
-// The refusal number of a book's answer, 0 for none.
-pub fn book_number(got: BookOrRefusal) -> u32
-    ensures { result ≡ book_number got }
-{
-    match got {
-        BookOrRefusal::Accepted(_) => 0,
-        BookOrRefusal::Refused(number) => number,
-    }
-}
-
-// The refusal number of a mask's answer, 0 for none.
-pub fn mask_number(got: MaskOrRefusal) -> u32
-    ensures { result ≡ mask_number got }
-{
-    match got {
-        MaskOrRefusal::Accepted(_) => 0,
-        MaskOrRefusal::Refused(number) => number,
-    }
 }
 
 // The state that state `q` moves to by letter `c`: `states`, the dead state, where the move names none.
