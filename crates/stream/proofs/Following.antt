@@ -6,7 +6,7 @@ use mathlib.Core.Logic.{◌⊎◌, inl, inr, ⊎_elim}
 use mathlib.Core.Bool.{Bool, true, false, cond}
 use mathlib.Core.List.{List, [], ◌∷◌, ◌++◌}
 use native.Mathlib.Omega.{arith}
-use borrow.Author.Tests.{ltb-true, ltb-false, eqb-true, lt-ltb, le-ltb, eq-eqb, ne_eqb}
+use borrow.Author.Tests.{ltb-true, ltb-false, eqb-true, lt-ltb, le-ltb, ne_eqb}
 use lib.Dec.{ltb, eqb}
 use lib.ListN.{length, length-append}
 use Rattle.records.specs.Bytes.{Bytes, number_at}
@@ -21,14 +21,6 @@ abbrev by : Bool → Bool → Bool → Bool → ℕ → Next
 by none one short cut k = cond none End (cond one Cut (cond short Short (cond cut Cut (Whole k))))
 
 module _ (bs : List ℕ) where
-  pub next_end : length bs ≡ 0 → End ≡ next bs
-  unfolding next
-  next_end e = rw (eq-eqb _ _ e)
-
-  pub next_one : length bs ≡ 1 → Cut ≡ next bs
-  unfolding next
-  next_one e = rw (ne_eqb (length bs) 0 (λ z. omega arith), lt-ltb (length bs) 2 (omega arith))
-
   module _ (two : 2 ≤ length bs) where
     past : next bs ≡ cond (ltb (length_field bs) 4) Short (cond (ltb (length bs) (length_field bs)) Cut (Whole (length_field bs)))
     unfolding next
@@ -36,9 +28,6 @@ module _ (bs : List ℕ) where
 
     pub next_short : length_field bs < 4 → Short ≡ next bs
     next_short h = rw (past, lt-ltb (length_field bs) 4 h)
-
-    pub next_cut : 4 ≤ length_field bs → length bs < length_field bs → Cut ≡ next bs
-    next_cut h l = rw (past, le-ltb (length_field bs) 4 h, lt-ltb (length bs) (length_field bs) l)
 
     pub next_whole : (k : ℕ) → k ≡ length_field bs → 4 ≤ k → k ≤ length bs → Whole k ≡ next bs
     next_whole k e h l = rw (past, le-ltb (length_field bs) 4 (omega arith), le-ltb (length bs) (length_field bs) (omega arith), e)

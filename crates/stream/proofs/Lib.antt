@@ -1,4 +1,3 @@
 -- Laws of what stands next; the proofs of functions stand in folders of their names.
 pub mod AllSamples
 pub mod Following
-pub mod Shifting

@@ -14,23 +14,19 @@ pub enum Next {
 }
 
 // What stands next in a stream of just these bytes.
+#[tactic(auto, unfolding(crate::specs::Stream::next))]
 pub fn next_record(bytes: &[u8]) -> Next
     ensures { result ≡ next bytes.now }
 {
-    if bytes.len() == 0 {
-        return Next::End;
+    match bytes {
+        [] => Next::End,
+        [_] => Next::Cut,
+        _ => match records::length_field(bytes) {
+            0..4 => Next::Short,
+            length if bytes.len() < length => Next::Cut,
+            length => Next::Whole(length),
+        },
     }
-    if bytes.len() == 1 {
-        return Next::Cut;
-    }
-    let length = records::length_field(bytes);
-    if length < 4 {
-        return Next::Short;
-    }
-    if bytes.len() < length {
-        return Next::Cut;
-    }
-    Next::Whole(length)
 }
 
 // Moves the bytes from `taken` up to `held` to the start, and returns how many they are.
@@ -38,14 +34,6 @@ pub fn shift(bytes: &mut [u8], taken: usize, held: usize) -> usize
     requires { (taken ≤ held) × (held ≤ length bytes.old) }
     ensures { (result ≡ held - taken) × (take result bytes.new ≡ drop taken (take held bytes.old)) }
 {
-    if taken == 0 {
-        return held;
-    }
-    let left = held - taken;
-    let mut i = 0;
-    while i < left {
-        bytes[i] = bytes[taken + i];
-        i += 1;
-    }
-    left
+    bytes.copy_within(taken..held, 0);
+    held - taken
 }

@@ -1,26 +1,20 @@
 -- `stream::shift` meets its contract.
-use mathlib.Core.Path.{refl}
-use native.Mathlib.Omega.{arith}
-use Rattle.stream.proofs.Shifting.{nothing_taken, shifting_starts, shifting_more, shifting_ends}
+use Rattle.std.proofs.Common.{ℕ, ◌+◌, ◌-◌, ◌≤◌, ◌≡◌, List, length, take, drop, refl, sym, ◌∙◌, ap, arith, length-drop}
+use Rattle.std.proofs.lemmas.List.{drop-take}
+use Rattle.std.proofs.lemmas.List.Edits.{take-paste}
+use Rattle.std.specs.List.{copy_within}
 use Rattle.stream.proofs.shift.Goals as goal
 
-pub returns-then-taken-eq0 : goal.returns-then-taken-eq0
-returns-then-taken-eq0 c = nothing_taken c.args.taken _ _ (omega arith)
-
-pub loop-i-init : goal.loop-i-init
-loop-i-init c = shifting_starts _ _ _
-
-pub bounds-bytes-taken : goal.bounds-bytes-taken
-bounds-bytes-taken c = omega (arith, c.loop-i.invariant.same)
-
-pub bounds-bytes-i : goal.bounds-bytes-i
-bounds-bytes-i c = omega (arith, c.loop-i.invariant.same)
-
-pub loop-i-preserved : goal.loop-i-preserved
-loop-i-preserved c = shifting_more _ _ _ _ _ c.loop-i.invariant (omega arith) (omega arith)
-
-pub shape_of-bytes : goal.shape_of-bytes
-shape_of-bytes c = c.loop-i.invariant.same
+-- the part copied to the start
+moved : (l : List ℕ) (taken held : ℕ) → taken ≤ held → held ≤ length l → take (held - taken) (copy_within l taken held 0) ≡ drop taken (take held l)
+moved l taken held h fits =
+    let left = held - taken in
+    let whole : taken + left ≡ held = omega arith in
+    let none : left ≡ 0 + left = omega arith in
+    ap (λ k. take k (copy_within l taken held 0)) none
+    ∙ take-paste l 0 (drop taken l) left (omega arith) (omega (arith, length-drop taken l))
+    ∙ sym (drop-take taken left l)
+    ∙ ap (λ k. drop taken (take k l)) whole
 
 pub returns : goal.returns
-returns c = (refl, shifting_ends _ _ _ _ _ c.loop-i.invariant c.args.held (omega arith) (omega arith) (omega arith))
+returns c = (refl, rw c.copy_within.ensures.after (moved _ _ _ c.requires.0 c.requires.1))
