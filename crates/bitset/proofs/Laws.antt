@@ -146,6 +146,11 @@ in_difference s t {i} = (
     go true n = n tt
     go false n = tt
 
+-- it is a set of 8 bytes
+pub difference_bytes : (s t : ℕ) → difference s t < 2 ^ 64
+unfolding difference
+difference_bytes s t = members_bytes s (λ j. not (has t j))
+
 -- a bit of the code's difference
 has_cleared : (s t i : ℕ) → has (bit_xor s (bit_and s t)) i ≡ (has s i && not (has t i))
 unfolding has

@@ -1,3 +1,4 @@
 -- What the code says of sets beside the model's definitions.
 pub mod Difference
 pub mod First
+pub mod Listed

@@ -1,6 +1,8 @@
 // Sets of numbers below 64 as u64, bit i for i: each function gives what the model's definition says.
 #![tactic(auto)]
 
+pub mod iter;
+
 ghost use Rattle.std.specs.Prelude.{◌≡◌, ℕ, ◌<◌, ◌^◌};
 ghost use Rattle.model.specs.Set.{has as member, both, either, some_from, one_member};
 ghost use Rattle.bitset.specs.Difference as spec;
@@ -57,6 +59,13 @@ pub fn without_first(set: u64) -> u64
     ensures { ((i : ℕ) → First i set → result ≡ spec.difference set (2 ^ i)) × (result < set) }
 {
     set & (set - 1)
+}
+
+// The members of `set`, from the least on.
+pub fn members(set: u64) -> iter::Members
+    ensures { result ≡ set }
+{
+    iter::Members::of(set)
 }
 
 // `set` has exactly one member.
