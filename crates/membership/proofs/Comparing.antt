@@ -5,11 +5,11 @@ use mathlib.Core.Path.{◌≡◌, refl, ap}
 use mathlib.Core.Logic.Iff
 use mathlib.Core.Logic.{◌↔◌}
 use mathlib.Core.Bool.{Bool, true, false}
-use mathlib.Core.List.{List, [], ◌∷◌, ◌++◌}
+use mathlib.Core.List.{List, []}
 use native.Mathlib.Numerals.{add-one}
 use native.Mathlib.Omega.{arith}
 use lib.Dec.{T}
-use lib.ListN.{length, get_or, take, set, replicate, length-set, length-replicate, get_or-replicate}
+use lib.ListN.{length, get_or, take, set, replicate, length-replicate, get_or-replicate}
 use lib.Seq.{length-take-le, take_all, take-length, take-suc, get_or-set_same, get_or-set_other}
 use Rattle.model.specs.declared.Block.{Block}
 use Rattle.model.specs.DashedString.{block, block_at, Matches}
@@ -20,25 +20,9 @@ use Rattle.bitset.proofs.Laws.{same_test}
 use Rattle.membership.specs.Marks.{marked, Extends, Marks}
 use Rattle.membership.proofs.Behind.{behind_at}
 
--- one block more
-marks_more : (xs : List Block) (x : Block) (w : List ℕ) (from to : List Bool) → Marks xs w from → Extends x w from to
-    → Marks (xs ++ x ∷ []) w to
-marks_more xs x w from to m e =
-    record {
-      exact = λ j h. (
-        λ t. let (i, l, n, a) = (e.exact j h).0 t in (behind_at xs x w j h).1 (i, l, (m.exact i (omega arith)).0 n, a),
-        λ n. let (i, l, n, a) = (behind_at xs x w j h).0 n in (e.exact j h).1 (i, l, (m.exact i (omega arith)).1 n, a),
-      );
-    }
-
--- the first i blocks are compared
-pub record Comparing (xs : List Block) (w : List ℕ) (n : ℕ) (marks : List Bool) (i : ℕ) : Type 0 where
-  pub size : length marks ≡ n
-  pub exact : Marks (take i xs) w marks
-
--- none is: only the empty word is spelled
-pub comparing_starts : (xs : List Block) (w : List ℕ) (n : ℕ) → length w < n → Comparing xs w n (set (replicate n false) 0 true) 0
-comparing_starts xs w n h = record { size = rw (length-set, length-replicate); exact = record { exact = at } }
+-- no block: only the empty word is spelled
+pub marks_start : (w : List ℕ) (n : ℕ) → length w < n → Marks [] w (set (replicate n false) 0 true)
+marks_start w n h = record { exact = at }
   where
     at : (j : ℕ) → j ≤ length w → T (marked (set (replicate n false) 0 true) j) ↔ Matches [] (take j w)
     at zero l =
@@ -50,18 +34,21 @@ comparing_starts xs w n h = record { size = rw (length-set, length-replicate); e
           λ m. absurd (omega (arith, length-take-le (suc j) w l, ap length ((matches_nil (take (suc j) w)).0 m))),
         )
 
-module _ (xs : List Block) (w : List ℕ) (n : ℕ) (marks : List Bool) (i : ℕ) (comparing : Comparing xs w n marks i) where
-  -- one block more
-  pub comparing_more : (x : Block) (to : List Bool) (next : ℕ) → next ≡ i + 1 → i < length xs → x ≡ block_at xs i → length to ≡ n → Extends x w marks to
-      → Comparing xs w n to next
-  comparing_more x to next step h e l s =
-      record {
-        size = l;
-        exact = rw (step, add-one i, take-suc xs i (block 0 0 0) h, ← e) (marks_more (take i xs) x w marks to comparing.exact s);
-      }
+-- one block more
+pub marks_more : (xs : List Block) (w : List ℕ) (i : ℕ) (x : Block) (from to : List Bool) → x ≡ block_at xs i → i < length xs
+    → Marks (take i xs) w from → Extends x w from to → Marks (take (i + 1) xs) w to
+marks_more xs w i x from to d g m e =
+    rw (add-one i, take-suc xs i (block 0 0 0) g, ← d)
+    (record {
+      exact = λ j h. (
+        λ t. let (i, l, n, a) = (e.exact j h).0 t in (behind_at _ _ w j h).1 (i, l, (m.exact i (omega arith)).0 n, a),
+        λ n. let (i, l, n, a) = (behind_at _ _ w j h).0 n in (e.exact j h).1 (i, l, (m.exact i (omega arith)).1 n, a),
+      );
+    })
 
-  -- all are: the last position tells
-  pub comparing_ends : length xs ≤ i → get_or marks (length w) false ≡ spells xs w
-  comparing_ends h =
-      same_test (get_or marks (length w) false) (spells xs w)
-      (Iff.trans (rw (take_all i xs h, take-length w) at (comparing.exact.exact (length w) (omega arith))) (Iff.symm (spells_exact xs w)))
+-- all blocks: the last position tells
+pub marks_end : (xs : List Block) (w : List ℕ) (i : ℕ) (marks : List Bool) → length xs ≤ i → Marks (take i xs) w marks
+    → get_or marks (length w) false ≡ spells xs w
+marks_end xs w i marks h m =
+    same_test (get_or marks (length w) false) (spells xs w)
+    (Iff.trans (rw (take_all i xs h, take-length w) at (m.exact (length w) (omega arith))) (Iff.symm (spells_exact xs w)))

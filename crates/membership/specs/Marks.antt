@@ -1,6 +1,6 @@
 -- A mask is compared with a word block by block, by marks on the word's positions: position j stands behind the first j
 -- letters.
-use Rattle.std.specs.Prelude.{ℕ, ◌-◌, ◌≤◌, ◌<◌, ◌≡◌, ◌↔◌, Bool, false, not, List, T, length, get_or, take, drop}
+use Rattle.std.specs.Prelude.{ℕ, ◌+◌, ◌-◌, ◌≤◌, ◌<◌, ◌≡◌, ◌↔◌, Bool, false, not, List, T, length, get_or, take, drop, Option, None, Some}
 use Rattle.model.specs.declared.Block.{Block}
 use Rattle.model.specs.DashedString.{Piece, Matches}
 use Rattle.model.specs.Set.{has}
@@ -17,6 +17,11 @@ outside S w k = not (has S (get_or w k 0))
 pub record Last (p : ℕ → Bool) (n a : ℕ) : Type 0 where
   pub found : 0 < a → (a ≤ n) × T (p (a - 1))
   pub none : (i : ℕ) → a ≤ i → i < n → p i ≡ false
+
+-- one more than a number, or 0 where there is none
+abbrev pub one_more : Option ℕ → ℕ
+one_more None = 0
+one_more (Some i) = i + 1
 
 -- the block's piece ends at position j: it spells the letters from some marked position to there
 abbrev pub Ends : Block → List ℕ → List Bool → ℕ → Type 0

@@ -1,10 +1,10 @@
 -- The letters of a word (01, check 13).
 use Rattle.std.specs.Prelude.{ℕ, ◌<◌, Bool, List, leb, length, get_or}
-use Rattle.records.specs.Check.{some}
+use Rattle.std.specs.List.{list_any}
 
 -- check 13: a letter m or above
 unfoldable pub strange : ℕ → List ℕ → Bool
-strange m w = some (leb m) w
+strange m w = list_any (leb m) w
 
 -- each letter of the word is below m
 abbrev pub Letters : ℕ → List ℕ → Type 0

@@ -15,21 +15,16 @@ use marking::extend;
 use records::Book;
 
 // Check 13: whether the word has a letter that is `letters` or above.
+#[tactic(auto, unfolding(crate::specs::Word::strange))]
 pub fn some_strange(word: &[u8], letters: usize) -> bool
     ensures { result ≡ strange letters word.now }
 {
-    let mut i = 0;
-    while i < word.len() {
-        if letters <= word[i] as usize {
-            return true;
-        }
-        i += 1;
-    }
-    false
+    word.iter().any(|letter| letters <= usize::from(*letter))
 }
 
 // Whether the mask spells the word. No cut is tried after another: block by block, it marks the positions of the word up to
 // which the blocks so far spell it, in two arrays by turns.
+#[tactic(auto, using(crate::proofs::Comparing::marks_more, crate::proofs::Comparing::marks_end, records::proofs::Offsets::blocks_counted))]
 pub fn spells(mask: &[u8], blocks: usize, word: &[u8]) -> bool
     requires blocks_value { (blocks ≡ count mask.now) × (6 + 12 * blocks ≤ length mask.now) }
     requires word_len_bound { (length word.now ≤ 1024) × Letters 64 word.now }
@@ -37,23 +32,13 @@ pub fn spells(mask: &[u8], blocks: usize, word: &[u8]) -> bool
 {
     let mut marks = [false; 1025];
     let mut others = [false; 1025];
-    marks[0] = true;
-    let mut done = 0;
-    while 1 < blocks - done {
-        extend(word, records::read_block(mask, done), &marks, &mut others);
-        extend(
-            word,
-            records::read_block(mask, done + 1),
-            &others,
-            &mut marks,
-        );
-        done += 2;
+    let (mut from, mut to) = (&mut marks, &mut others);
+    from[0] = true;
+    for i in 0..blocks {
+        extend(word, records::read_block(mask, i), from, to);
+        std::mem::swap(&mut from, &mut to);
     }
-    if done < blocks {
-        extend(word, records::read_block(mask, done), &marks, &mut others);
-        return others[word.len()];
-    }
-    marks[word.len()]
+    from[word.len()]
 }
 
 // Whether the book accepts the word.

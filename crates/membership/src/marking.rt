@@ -1,7 +1,7 @@
 // One block's pass over the positions of a word. Position j stands behind the first j letters.
 ghost use Rattle.std.specs.Prelude.{◌+◌, ◌-◌, ◌≤◌, ◌<◌, ◌↔◌, T, length};
 ghost use Rattle.membership.specs.Word.{Letters};
-ghost use Rattle.membership.specs.Marks.{marked, outside, Last, Extends};
+ghost use Rattle.membership.specs.Marks.{marked, outside, one_more, Last, Extends};
 
 use model::Block;
 
@@ -12,44 +12,32 @@ fn run_start(word: &[u8], base: u64, j: usize, start: usize) -> usize
     requires last { Last (outside base word.now) (j - 1) start }
     ensures { Last (outside base word.now) j result }
 {
-    if j == 0 {
-        return start;
+    if j == 0 || bitset::has(base, usize::from(word[j - 1])) {
+        start
+    } else {
+        j
     }
-    if bitset::has(base, word[j - 1] as usize) {
-        return start;
-    }
-    j
 }
 
-// One more than the last marked position from which there are at least `lower` letters to position `j`, or 0 where there
-// is none. `after` is the same for the position before.
-fn latest(from: &[bool], lower: usize, j: usize, after: usize) -> usize
+// The last marked position from which there are at least `lower` letters to position `j`. `before` is the same for the
+// position before.
+fn latest(from: &[bool], lower: u16, j: usize, before: Option<usize>) -> Option<usize>
     requires j_in_bounds { j < length from.now }
-    requires last { Last (marked from.now) (j - lower) after }
-    ensures { Last (marked from.now) (j + 1 - lower) result }
+    requires last { Last (marked from.now) (j - lower) (one_more before) }
+    ensures { Last (marked from.now) (j + 1 - lower) (one_more result) }
 {
-    if j < lower {
-        return after;
+    match j.checked_sub(usize::from(lower)) {
+        Some(begin) if from[begin] => Some(begin),
+        _ => before,
     }
-    if from[j - lower] {
-        return j - lower + 1;
-    }
-    after
 }
 
-// Whether a piece may go from position `after - 1` to `j`: it begins at `start` or behind, and has at most `upper` letters.
-fn reaches(start: usize, after: usize, upper: usize, j: usize) -> bool
-    requires { after ≤ j + 1 }
-    ensures { T result ↔ ((start < after) × (j < after + upper)) }
+// Whether a piece may go from position `begin` to `j`: it begins at `start` or behind, and has at most `upper` letters.
+fn reaches(start: usize, begin: Option<usize>, upper: u16, j: usize) -> bool
+    requires { one_more begin ≤ j + 1 }
+    ensures { T result ↔ ((start < one_more begin) × (j < one_more begin + upper)) }
 {
-    if after <= start {
-        return false;
-    }
-    let begin = after - 1;
-    if upper < j - begin {
-        return false;
-    }
-    true
+    begin.is_some_and(|begin| start <= begin && j - begin <= usize::from(upper))
 }
 
 // Marks in `to` the positions at which a piece of the block ends that begins at a position marked in `from`. Of the marked
@@ -61,12 +49,10 @@ pub(crate) fn extend(word: &[u8], block: Block, from: &[bool], to: &mut [bool])
     ensures { Extends block word.now from.now to.new }
 {
     let mut start = 0;
-    let mut after = 0;
-    let mut j = 0;
-    while j <= word.len() {
+    let mut begin = None;
+    for j in 0..=word.len() {
         start = run_start(word, block.base, j, start);
-        after = latest(from, block.lower as usize, j, after);
-        to[j] = reaches(start, after, block.upper as usize, j);
-        j += 1;
+        begin = latest(from, block.lower, j, begin);
+        to[j] = reaches(start, begin, block.upper, j);
     }
 }

@@ -1,6 +1,5 @@
 -- `membership::accepts` meets its contract.
-use mathlib.Core.Path.{◌∙◌}
-use native.Mathlib.Omega.{arith}
+use Rattle.std.proofs.Common.{◌∙◌, arith}
 use Rattle.membership.proofs.Moving.{accepts_there}
 use Rattle.membership.proofs.accepts.Goals as goal
 

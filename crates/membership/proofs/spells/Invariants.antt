@@ -1,12 +1,12 @@
-use Prim.Native.Nat.{◌-◌, ◌≤◌}
-use mathlib.Core.Path.{◌≡◌}
-use lib.ListN.{length}
+use Rattle.std.proofs.Common.{◌≡◌, length, take}
 use Rattle.records.specs.Mask.{mask_of}
-use Rattle.membership.proofs.Comparing.{Comparing}
+use Rattle.membership.specs.Marks.{Marks}
 use Rattle.membership.proofs.spells.Given as goal
 
-abbrev pub invariant-loop-done : goal.invariant-loop-done
-invariant-loop-done l = (l.done ≤ l.blocks) × (length l.others ≡ 1025) × Comparing (mask_of l.mask) l.word 1025 l.marks l.done
-
-abbrev pub decreases-loop-done : goal.decreases-loop-done
-decreases-loop-done l = l.blocks - l.done
+abbrev pub invariant-loop-i : goal.invariant-loop-i
+invariant-loop-i l =
+    record {
+      from_size : length l.from ≡ 1025;
+      to_size : length l.to ≡ 1025;
+      exact : Marks (take l.i (mask_of l.mask)) l.word l.from;
+    }

@@ -1,11 +1,9 @@
-use Prim.Native.Nat.{◌-◌}
-use lib.ListN.{length}
+use Rattle.std.proofs.Common.{◌≡◌, ◌<◌, drop}
+use Rattle.model.specs.Automaton as spec
 use Rattle.records.specs.Book.{table_of}
-use Rattle.membership.proofs.Moving.{Moving}
 use Rattle.membership.proofs.following.run.Given as goal
 
-abbrev pub invariant-loop-i : goal.invariant-loop-i
-invariant-loop-i l = Moving (table_of l.states l.letters l.moves) l.start l.word l.i l.state
-
-abbrev pub decreases-loop-i : goal.decreases-loop-i
-decreases-loop-i l = length l.word - l.i
+abbrev pub invariant-loop-letter : goal.invariant-loop-letter
+invariant-loop-letter l =
+    let t = table_of l.states l.letters l.moves in
+    record { alive : l.state < l.states; same : spec.run t l.state (drop l.letter-index l.word) ≡ spec.run t l.start l.word }

@@ -1,10 +1,11 @@
-use Prim.Native.Nat.{◌+◌, ◌-◌}
-use lib.ListN.{length}
-use Rattle.membership.proofs.Pass.{Extending}
+use Rattle.std.proofs.Common.{ℕ, ◌-◌, ◌<◌, ◌↔◌, T}
+use Rattle.membership.specs.Marks.{marked, outside, one_more, Last, Ends}
 use Rattle.membership.proofs.marking.extend.Given as goal
 
 abbrev pub invariant-loop-j : goal.invariant-loop-j
-invariant-loop-j l = Extending l.block l.word l.from l.initial.to l.to l.start l.after l.j
-
-abbrev pub decreases-loop-j : goal.decreases-loop-j
-decreases-loop-j l = length l.word + 1 - l.j
+invariant-loop-j l =
+    record {
+      run : Last (outside l.block.base l.word) (l.j - 1) l.start;
+      latest : Last (marked l.from) (l.j - l.block.lower) (one_more l.begin);
+      done : (k : ℕ) → k < l.j → T (marked l.to k) ↔ Ends l.block l.word l.from k;
+    }
