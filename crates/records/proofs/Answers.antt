@@ -1,6 +1,6 @@
 -- What a reader's answer tells, for who takes it apart.
 -- Assumes nothing.
-use Rattle.std.proofs.Common.{◌≡◌, ℕ, ◌+◌, ◌*◌, ◌≤◌, Option, None, Some, Result, Ok, Err, List, length, refl, arith}
+use Rattle.std.proofs.Common.{◌≡◌, ℕ, ◌+◌, ◌*◌, ◌≤◌, Option, None, Some, Ok, Err, List, length, refl, arith}
 use Rattle.model.specs.declared.Refusal.{Refusal}
 use Rattle.model.specs.Refusal.{accepted, unless}
 use Rattle.records.specs.declared.Book.{Book}

@@ -1,6 +1,7 @@
 -- Which check decides, and what those that pass tell.
 -- Assumes nothing.
-use Rattle.std.proofs.Common.{◌≡◌, ℕ, zero, suc, ◌*◌, ◌<◌, ◌≤◌, Bool, true, false, not, ◌||◌, T, eqb, ltb, Option, Some, ◌↔◌, List, [], ◌∷◌, length, get_or, refl, ◌∙◌, true≢false, mul-le-mul, lt_of_not-le, arith, ltb-false, le-ltb, lt-ltb, eq-eqb, ne_eqb, eqb-true}
+use Rattle.std.proofs.Common.{◌≡◌, ℕ, zero, suc, ◌*◌, ◌<◌, ◌≤◌, Bool, true, false, not, ◌||◌, T, eqb, ltb, Option, Some, ◌↔◌, List, [], ◌∷◌, ◌++◌, length, get_or, refl, ◌∙◌, true≢false, mul-le-mul, lt_of_not-le, arith, ltb-false, le-ltb, lt-ltb, eq-eqb, ne_eqb, eqb-true}
+use mathlib.Core.Bool.{or-false, or_assoc}
 use borrow.Author.Tests.{not-false}
 use lib.Dec.{eqb-suc-zero}
 use Rattle.model.specs.declared.Block.{Block}
@@ -55,6 +56,12 @@ module _ (bs : List ℕ) (k least : ℕ) (rest : Option Refusal) where
 
       pub past_three : least ≤ length bs → three ≡ rest
       past_three h = off _ _ _ framed ∙ off _ _ _ (is (kind bs) k right) ∙ off _ _ _ (le-ltb (length bs) least h)
+
+-- one element more at the end
+pub some_more : {A : Type 0} (p : A → Bool) (xs : List A) (x : A) → some p (xs ++ x ∷ []) ≡ (some p xs || p x)
+unfolding some
+some_more p [] x = or-false (p x)
+some_more p (y ∷ xs) x = rw (some_more p xs x, or_assoc)
 
 -- neither test fires
 pub neither : (a b : Bool) → (a || b ≡ false) ↔ ((a ≡ false) × (b ≡ false))

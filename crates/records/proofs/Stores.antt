@@ -29,7 +29,7 @@ unfolding over
 sets_over new old h = sets-eq new old 0 (omega arith) ∙ rw zero-add
 
 -- one value more
-values_more : (f : ℕ → Block) (i : ℕ) → values f (suc i) ≡ values f i ++ f i ∷ []
+pub values_more : (f : ℕ → Block) (i : ℕ) → values f (suc i) ≡ values f i ++ f i ∷ []
 values_more f zero = refl
 values_more f (suc i) = ap (◌∷◌ (f 0)) (values_more (λ j. f (suc j)) i)
 

@@ -1,113 +1,90 @@
--- Totals taken from block after block, and the checks by them.
+-- A mask's numbers gathered from block after block, and what check 9 asks of them.
 -- Assumes nothing.
-use Rattle.std.proofs.Common.{◌≡◌, ℕ, ◌+◌, ◌-◌, ◌*◌, ◌<◌, ◌≤◌, false, ◌||◌, List, [], ◌∷◌, length, get_or, sym, refl, ◌∙◌, inl, inr, ⊎_elim, add-zero, add_assoc, add-one, arith}
-use mathlib.Core.Bool.{or-false, or_assoc}
+use Rattle.std.proofs.Common.{◌≡◌, ℕ, zero, suc, ◌+◌, ◌<◌, Bool, true, false, ◌||◌, ltb, Ok, Err, List, [], ◌∷◌, ◌++◌, sym, refl, ◌∙◌, inl, inr, ⊎_elim, add-one, arith}
+use mathlib.Core.Bool.{or-true, or-false, or_assoc}
 use Rattle.model.specs.declared.Block.{Block}
-use Rattle.model.specs.Refusal.{unless}
+use Rattle.model.specs.declared.Refusal.{Refusal}
+use Rattle.model.specs.declared.Refusal.TheVariants.{Crossed, Uppers}
+use Rattle.model.specs.Refusal.{accepted, refuse, unless}
 use Rattle.model.specs.Set.{either, some_from}
+use Rattle.model.specs.DashedString.{values}
 use Rattle.model.specs.Size.{uppers}
 use Rattle.model.proofs.Set.{T_or, in_none, in_either}
 use Rattle.bitset.proofs.Laws.{same_test, some_from_lem}
-use Rattle.records.specs.declared.totals.Totals.{Totals}
+use Rattle.records.specs.declared.Mask.{Mask}
 use Rattle.records.specs.Check.{some}
-use Rattle.records.specs.Mask.{block_from, blocks_from, crossed, blocks_refusal, with_letters, read_blocks, foreign}
-use Rattle.records.specs.Totals.{totals, with_block, totals_refusal}
-use Rattle.records.specs.Written.{numbered, blocks_of, blocks_between, Enough}
-use Rattle.records.proofs.Checks.{none_from}
-use Rattle.records.proofs.Offsets.{first_block, no_block}
-use Rattle.records.proofs.Copies.{between_cons}
+use Rattle.records.specs.Mask.{crossed, blocks_refusal, with_letters, read_blocks, foreign}
+use Rattle.records.specs.Gathered.{with_block}
+use Rattle.records.proofs.Answers.{unless_ok}
+use Rattle.records.proofs.Checks.{peel, some_more, none_from}
+use Rattle.records.proofs.Stores.{values_more, length_values}
 
--- the totals of a list, where some of its blocks are still to come
-pub record Taking (xs rest : List Block) (t : Totals) : Type 0 where
-  pub crossed : (t.crossed || some crossed rest) ≡ some crossed xs
-  pub uppers : t.uppers + uppers rest ≡ uppers xs
-  pub used : with_letters t.used rest ≡ with_letters 0 xs
+-- with one block more at the end
+module _ (x : Block) where
+  uppers_more : (xs : List Block) → uppers (xs ++ x ∷ []) ≡ uppers xs + x.upper
+  uppers_more [] = omega arith
+  uppers_more (y ∷ xs) = omega (arith, uppers_more xs)
 
--- all are to come
-pub taking_starts : (xs : List Block) → Taking xs xs (record { crossed = false; uppers = 0; used = 0 })
-taking_starts xs = record { crossed = refl; uppers = omega arith; used = refl }
+  letters_more : (s : ℕ) (xs : List Block) → with_letters s (xs ++ x ∷ []) ≡ either (with_letters s xs) x.base
+  unfolding with_letters
+  letters_more s [] = refl
+  letters_more s (y ∷ xs) = letters_more (either s y.base) xs
 
--- the next is taken
-pub taking_more : (xs rest : List Block) (x : Block) (t : Totals) → Taking xs (x ∷ rest) t → Taking xs rest (with_block t x)
+-- one value that passes the test
+some_value : (p : Block → Bool) (f : ℕ → Block) (k i : ℕ) → i < k → p (f i) ≡ true → some p (values f k) ≡ true
+unfolding some
+some_value p f zero i h e = absurd (omega arith)
+some_value p f (suc k) zero h e = rw e
+some_value p f (suc k) (suc i) h e = rw (some_value p (λ j. f (suc j)) k i (omega arith) e) (or-true (p (f 0)))
+
+-- one check alone: what it leaves, and what it refuses
+alone_ok : {A : Type 0} (t : Bool) (k : Refusal) (x y : A) → unless (refuse t k accepted) x ≡ Ok y → (t ≡ false) × (y ≡ x)
+alone_ok t k x y e = let (passed, same) = unless_ok (refuse t k accepted) x y e in ((peel t k accepted passed).0, same)
+
+alone_err : {A : Type 0} (t : Bool) (k r : Refusal) (x : A) → unless (refuse t k accepted) x ≡ Err r → (t ≡ true) × (r ≡ k)
+unfolding refuse
+alone_err true k r x e = (refl, cc)
+alone_err false k r x e = cc
+
+-- what one block more adds
+pub block_taken : (m n : Mask) (x : Block) → with_block m x ≡ Ok n
+    → (crossed x ≡ false) × (n ≡ record { blocks = m.blocks; uppers = m.uppers + x.upper; used = either m.used x.base })
+block_taken m n x = alone_ok (crossed x) Crossed _ n
+
+-- the numbers of the first of `count` blocks, of which none is crossed
+pub record Gathered (count : ℕ) (xs : List Block) (m : Mask) : Type 0 where
+  pub numbers : m ≡ record { blocks = count; uppers = uppers xs; used = with_letters 0 xs }
+  pub bounds : some crossed xs ≡ false
+
+-- of none
+pub gathered_starts : (count : ℕ) → Gathered count [] (record { blocks = count; uppers = 0; used = 0 })
 unfolding some with_letters
-taking_more xs rest x t taking =
+gathered_starts count = record { numbers = refl; bounds = refl }
+
+-- of one more
+gathered_one : (count : ℕ) (xs : List Block) (m n : Mask) (x : Block) → Gathered count xs m → with_block m x ≡ Ok n → Gathered count (xs ++ x ∷ []) n
+gathered_one count xs m n x gathered e =
+    let (passed, same) = block_taken m n x e in
     record {
-      crossed = or_assoc t.crossed (crossed x) (some crossed rest) ∙ taking.crossed;
-      uppers = rw add_assoc taking.uppers;
-      used = taking.used;
+      numbers = rw (same, gathered.numbers, uppers_more x xs, letters_more x 0 xs);
+      bounds = rw (some_more crossed xs x, gathered.bounds, passed);
     }
 
--- none is to come
-pub taking_ends : (xs : List Block) (t : Totals) → Taking xs [] t → t ≡ totals xs
-unfolding some with_letters
-taking_ends xs t taking = rw (← taking.crossed, ← taking.uppers, ← taking.used, or-false, add-zero)
+module _ (count : ℕ) (f : ℕ → Block) (i : ℕ) (m : Mask) (gathered : Gathered count (values f i) m) where
+  pub gathered_more : (n : Mask) → with_block m (f i) ≡ Ok n → Gathered count (values f (i + 1)) n
+  gathered_more n e = rw (add-one i, values_more f i) (gathered_one count (values f i) m n (f i) gathered e)
 
--- ---- the blocks of a record
+  -- the next is crossed
+  pub gathered_crossed : (r : Refusal) → i < count → with_block m (f i) ≡ Err r → Err r ≡ read_blocks (values f count)
+  unfolding refuse blocks_refusal read_blocks
+  gathered_crossed r h e =
+      let (fails, same) = alone_err (crossed (f i)) Crossed r _ e in
+      rw (same, some_value crossed f count i h fails)
 
--- all blocks but the last `left`, which begin at byte `at`, are taken
-pub record OfRecord (bs : List ℕ) (blocks at left : ℕ) (t : Totals) : Type 0 where
-  pub here : at + 12 * left ≡ 6 + 12 * blocks
-  pub small : t.uppers + 65536 * left ≤ 65536 * blocks
-  pub taking : Taking (blocks_from blocks bs 6) (blocks_from left bs at) t
-
--- none is taken yet
-pub record_starts : (bs : List ℕ) (blocks : ℕ) → OfRecord bs blocks 6 blocks (record { crossed = false; uppers = 0; used = 0 })
-record_starts bs blocks = record { here = refl; small = omega arith; taking = taking_starts (blocks_from blocks bs 6) }
-
-module _ (bs : List ℕ) (blocks at left : ℕ) (t : Totals) (of : OfRecord bs blocks at left t) where
-  -- one block more
-  pub record_more : (x : Block) (u : Totals) → 0 < left → x ≡ block_from bs at → x.upper < 65536 → u ≡ with_block t x
-      → OfRecord bs blocks (at + 12) (left - 1) u
-  record_more x u h e l n =
-      rw n (record {
-        here = omega (arith, of.here);
-        small = omega (arith, of.small);
-        taking = taking_more (blocks_from blocks bs 6) _ x t (rw (first_block bs at left h, ← e) at of.taking);
-      })
-
-  -- all are taken
-  pub record_ends : left ≤ 0 → t ≡ totals (blocks_from blocks bs 6)
-  record_ends h = taking_ends (blocks_from blocks bs 6) t (rw (no_block bs at left h) at of.taking)
-
--- ---- the blocks of three slices
-
--- the first i blocks are taken
-pub record OfSlices (b l u : List ℕ) (count i : ℕ) (t : Totals) : Type 0 where
-  pub within : i ≤ count
-  pub small : t.uppers ≤ 65536 * i
-  pub taking : Taking (blocks_of b l u count) (blocks_between b l u i count) t
-
-module _ (b l u : List ℕ) (count : ℕ) where
-  -- none is taken yet
-  pub slices_start : OfSlices b l u count 0 (record { crossed = false; uppers = 0; used = 0 })
-  slices_start =
-      let all : count - 0 ≡ count = omega arith in
-      record { within = omega arith; small = omega arith; taking = rw all (taking_starts (blocks_of b l u count)) }
-
-  module _ (i : ℕ) (t : Totals) (of : OfSlices b l u count i t) where
-    -- one block more
-    pub slices_more : (v : Totals) → i < count → Enough b l u count → get_or u i 0 < 65536 → v ≡ with_block t (numbered b l u i)
-        → OfSlices b l u count (i + 1) v
-    slices_more v h e s n =
-        rw (n, add-one i) (record {
-          within = omega arith;
-          small = omega (arith, of.small);
-          taking = taking_more (blocks_of b l u count) _ (numbered b l u i) t (rw (between_cons b l u i count h e) at of.taking);
-        })
-
-    -- all are taken
-    pub slices_end : count ≤ i → t ≡ totals (blocks_of b l u count)
-    slices_end h =
-        let none : count - i ≡ 0 = omega arith in
-        taking_ends (blocks_of b l u count) t (rw none at of.taking)
-
--- ---- the checks
-
--- blocks as a mask, by how many there are and by their totals: checks 7 and 8
-pub by_totals : (xs : List Block) (k : ℕ) (t : Totals) → k ≡ length xs → t ≡ totals xs
-    → unless (totals_refusal t) (record { blocks = k; uppers = t.uppers; used = t.used }) ≡ read_blocks xs
-unfolding blocks_refusal read_blocks totals_refusal
-by_totals xs k t e n = rw (e, n)
+  -- of all: check 8 decides
+  pub gathered_ends : i ≡ count → unless (refuse (ltb 1024 m.uppers) Uppers accepted) m ≡ read_blocks (values f count)
+  unfolding refuse blocks_refusal read_blocks
+  gathered_ends e = rw (gathered.numbers, ← e, gathered.bounds, length_values f i)
 
 -- some member of either set is m or above
 from_either : (s t m : ℕ) → some_from (either s t) m ≡ (some_from s m || some_from t m)

@@ -3,7 +3,7 @@ pub mod Bytes
 pub mod Check
 pub mod Book
 pub mod Mask
-pub mod Totals
+pub mod Gathered
 pub mod Written
 pub mod WellFormed
 pub mod Samples

@@ -3,27 +3,24 @@
 #![tactic(auto)]
 
 ghost use Rattle.std.specs.Prelude.{◌≡◌, ◌+◌, ◌*◌, ◌<◌, ◌≤◌, length};
-ghost use Rattle.model.specs.Refusal.{unless};
 ghost use Rattle.model.specs.Set.{some_from};
 ghost use Rattle.model.specs.DashedString.{block_at};
 ghost use Rattle.model.specs.Automaton.{next};
 ghost use Rattle.records.specs.Bytes.{over};
 ghost use Rattle.records.specs.Book.{table_of, read_book};
 ghost use Rattle.records.specs.Mask.{count, mask_of, read_mask, read_blocks};
-ghost use Rattle.records.specs.Totals.{totals_refusal};
 ghost use Rattle.records.specs.Written.{mask_bytes, blocks_of, Enough};
 
 mod automaton;
 mod blocks;
 mod frame;
+mod gather;
 mod moves;
 mod number;
-mod totals;
 mod writer;
 
 pub use frame::length_field;
 use model::{Block, Refusal};
-use totals::Totals;
 
 // The numbers of a kind 1 record (a book): n, m, the start and the accepting states. Its moves stay in the slice.
 #[derive(Clone, Copy)]
@@ -71,7 +68,7 @@ pub fn read_book(bytes: &[u8]) -> Result<Book, Refusal>
 }
 
 // A slice as a mask, or the first mask check that fails.
-#[tactic(auto, using(crate::proofs::Checks::framing, crate::proofs::Offsets::blocks_counted), unfolding(model::specs::Refusal::refuse, crate::specs::Mask::read_mask, crate::specs::Mask::mask_refusal, crate::specs::Mask::blocks_refusal, crate::specs::Mask::mask_of, crate::specs::Totals::totals_refusal))]
+#[tactic(auto, using(crate::proofs::Checks::framing, crate::proofs::Offsets::blocks_counted), unfolding(model::specs::Refusal::refuse, crate::specs::Mask::read_mask, crate::specs::Mask::mask_refusal, crate::specs::Mask::read_blocks))]
 pub fn read_mask(bytes: &[u8]) -> Result<Mask, Refusal>
     ensures { result ≡ read_mask bytes.now }
 {
@@ -91,11 +88,10 @@ pub fn read_mask(bytes: &[u8]) -> Result<Mask, Refusal>
     if bytes.len() != 6 + 12 * blocks {
         return Err(Refusal::Size);
     }
-    mask_of(blocks, totals::of_record(bytes, blocks))
+    gather::mask_of(blocks, |i| read_block(bytes, i))
 }
 
 // The first `count` blocks, whose sets and bounds the three slices hold, as a mask, or the first check that fails: 7 and 8.
-#[tactic(auto, using(crate::proofs::Stores::length_values), unfolding(crate::specs::Mask::read_blocks, crate::specs::Mask::blocks_refusal, crate::specs::Totals::totals_refusal))]
 pub fn check_blocks(
     bases: &[u64],
     lowers: &[u16],
@@ -105,25 +101,14 @@ pub fn check_blocks(
     requires { (count ≤ 1024) × Enough bases.now lowers.now uppers.now count }
     ensures { result ≡ read_blocks (blocks_of bases.now lowers.now uppers.now count) }
 {
-    mask_of(count, totals::of_slices(bases, lowers, uppers, count))
-}
-
-// A mask by its number of blocks and its totals. Checks 7 and 8.
-#[tactic(auto, unfolding(model::specs::Refusal::refuse, crate::specs::Totals::totals_refusal))]
-fn mask_of(blocks: usize, totals: Totals) -> Result<Mask, Refusal>
-    ensures { result ≡ unless (totals_refusal totals) (record { blocks = blocks; uppers = totals.uppers; used = totals.used }) }
-{
-    if totals.crossed {
-        return Err(Refusal::Crossed);
-    }
-    if 1024 < totals.uppers {
-        return Err(Refusal::Uppers);
-    }
-    Ok(Mask {
-        blocks,
-        uppers: totals.uppers,
-        used: totals.used,
-    })
+    gather::mask_of(
+        count,
+        |i| Block {
+            base: bases[i],
+            lower: lowers[i],
+            upper: uppers[i],
+        },
+    )
 }
 
 // The state that state `q` moves to by letter `c`: `states`, the dead state, where the move names none.
@@ -159,13 +144,11 @@ pub fn read_blocks(
     ensures { let copied = blocks_of bases.new lowers.new uppers.new blocks in
         copied ≡ mask_of bytes.now }
 {
-    let mut i = 0;
-    while i < blocks {
+    for i in 0..blocks {
         let block = read_block(bytes, i);
         bases[i] = block.base;
         lowers[i] = block.lower;
         uppers[i] = block.upper;
-        i += 1;
     }
 }
 

@@ -8,14 +8,9 @@ ghost use Rattle.records.specs.Book.{stray};
 pub(crate) fn some_stray(states: usize, moves: &[u8]) -> bool
     ensures { result ≡ some (stray states) moves.now }
 {
-    let mut most: u8 = 0;
-    let mut i = 0;
-    while i < moves.len() {
-        let above = std::num::wrapping_add_u8(moves[i], 1);
-        if most < above {
-            most = above;
-        }
-        i += 1;
+    let mut most = 0;
+    for to in moves {
+        most = to.wrapping_add(1).max(most);
     }
-    states < most as usize
+    states < usize::from(most)
 }

@@ -15,11 +15,9 @@ pub(crate) fn read(bytes: &[u8], at: usize, width: usize) -> u64
     requires { (width ≤ 8) × (at + width ≤ length bytes.now) }
     ensures { (result ≡ number_at width bytes.now at) × (result < 256 ^ width) }
 {
-    let mut number: u64 = 0;
-    let mut left = width;
-    while 0 < left {
-        left -= 1;
-        number = wide(bytes[at + left]) + 256 * number;
+    let mut number = 0;
+    for i in (0..width).rev() {
+        number = wide(bytes[at + i]) + 256 * number;
     }
     number
 }
@@ -30,10 +28,8 @@ pub(crate) fn write(out: &mut [u8], at: usize, width: usize, number: u64)
     ensures { out.new ≡ sets out.old at (bytes_of width number) }
 {
     let mut rest = number;
-    let mut done = 0;
-    while done < width {
-        out[at + done] = (rest % 256) as u8;
-        rest = rest / 256;
-        done += 1;
+    for i in 0..width {
+        out[at + i] = (rest % 256) as u8;
+        rest /= 256;
     }
 }

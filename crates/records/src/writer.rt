@@ -30,14 +30,12 @@ pub(crate) fn write_blocks(
     ensures { let written = blocks_bytes (blocks_of bases.now lowers.now uppers.now count) in
         out.new ≡ over written out.old }
 {
-    let mut i = 0;
-    while i < count {
+    for i in 0..count {
         let block = Block {
             base: bases[i],
             lower: lowers[i],
             upper: uppers[i],
         };
         write_block(out, 12 * i, block);
-        i += 1;
     }
 }

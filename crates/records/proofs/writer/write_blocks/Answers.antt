@@ -9,8 +9,5 @@ loop-i-init c = filling_starts _ _ _
 pub loop-i-preserved : goal.loop-i-preserved
 loop-i-preserved c = filling_more _ _ _ _ _ c.loop-i.invariant _ (omega arith) c.write_block.ensures
 
-pub shape_of-out : goal.shape_of-out
-shape_of-out c = c.loop-i.invariant.size
-
 pub returns : goal.returns
 returns c = filling_ends _ _ _ _ _ c.loop-i.invariant (omega arith) (omega arith)
