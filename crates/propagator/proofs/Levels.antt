@@ -4,6 +4,7 @@ use Prim.Native.Nat.{ℕ, zero, suc, ◌+◌, ◌-◌, ◌^◌, ◌≤◌, ◌<�
 use mathlib.Core.Path.{◌≡◌, refl, sym, ◌∙◌, subst}
 use mathlib.Core.Logic.{◌⊎◌, inl, inr, ⊎_elim}
 use mathlib.Core.Bool.{Bool, true, false}
+use native.Mathlib.Numerals.{add-one}
 use native.Mathlib.Omega.{arith}
 use lib.Bits.{and_lt, or_lt}
 use Rattle.model.specs.Set.{has, Member, both, either, some_member}
@@ -63,10 +64,15 @@ module _ (t : Table) (fits : t.states < 64) (S R level : ℕ) where
 -- ---- level by level
 
 module _ (t : Table) (S R E : ℕ) where
-  -- the level above
-  level_next : (d level next : ℕ) → level ≡ to_end t S R E d → next ≡ either level (before t S R level) → next ≡ to_end t S R E (suc d)
+  -- the lowest level
+  pub level_first : E ≡ to_end t S R E 0
   unfolding rounds
-  level_next d level next e f = rw (f, e)
+  level_first = refl
+
+  -- the level above
+  pub level_next : (d level next : ℕ) → level ≡ to_end t S R E d → next ≡ either level (before t S R level) → next ≡ to_end t S R E (d + 1)
+  unfolding rounds
+  level_next d level next e f = rw (add-one d, f, e)
 
   -- a level is one of 8 bytes
   level_bytes : (d : ℕ) → E < 2 ^ 64 → to_end t S R E d < 2 ^ 64
@@ -74,32 +80,10 @@ module _ (t : Table) (S R E : ℕ) where
   level_bytes zero h = h
   level_bytes (suc d) h = or_lt 64 (to_end t S R E d) (before t S R (to_end t S R E d)) (level_bytes d h) (before_bytes t S R (to_end t S R E d))
 
-  -- level n - left, where left more are to come
-  pub record Rising (n level left : ℕ) : Type 0 where
-    pub within : left ≤ n
-    pub same : level ≡ to_end t S R E (n - left)
-
-  -- the lowest level
-  pub rising_starts : (n : ℕ) → Rising n E n
-  unfolding rounds
-  rising_starts n = let none : n - n ≡ 0 = omega arith in record { within = omega arith; same = rw none }
-
-  module _ (n level left next : ℕ) (rising : Rising n level left) where
-    -- one level more
-    pub rising_more : 0 < left → next ≡ either level (before t S R level) → Rising n next (left - 1)
-    rising_more h f =
-        let more : n - (left - 1) ≡ suc (n - left) = omega (arith, rising.within) in
-        record { within = omega (arith, rising.within); same = rw more (level_next (n - left) level next rising.same f) }
-
-    -- a level repeats
-    pub rising_stays : next ≡ either level (before t S R level) → next ≡ level → level ≡ to_end t S R E n
-    rising_stays f e =
-        rising.same
-        ∙ sym (rounds_stay (before t S R) E (n - left) n (rw rising.same at (sym f ∙ e)) (omega (arith, rising.within)))
-
-    -- all levels are done
-    pub rising_ends : left ≤ 0 → level ≡ to_end t S R E n
-    rising_ends h = let all : n - left ≡ n = omega arith in rw all at rising.same
+  -- a level repeats: all above are that level
+  pub level_stays : (d n level next : ℕ) → level ≡ to_end t S R E d → next ≡ either level (before t S R level) → next ≡ level → d ≤ n
+      → level ≡ to_end t S R E n
+  level_stays d n level next e f g h = e ∙ sym (rounds_stay (before t S R) E d n (rw e at (sym f ∙ g)) h)
 
 -- ---- the least b
 
@@ -110,16 +94,15 @@ near t S R E Q d = some_member Q (has (to_end t S R E d))
 -- no state of Q is below the level, whose number is height
 pub record Searching (t : Table) (S R E Q w level height : ℕ) : Type 0 where
   pub bytes : level < 2 ^ 64
-  pub within : height ≤ w
   pub same : level ≡ to_end t S R E height
   pub least : fewest t S R E Q w ≡ first (w - height) height (near t S R E Q)
 
 -- no level is looked at yet
 pub searching_starts : (t : Table) (S R E Q w : ℕ) → E < 2 ^ 64 → Searching t S R E Q w E 0
-unfolding rounds fewest
+unfolding fewest
 searching_starts t S R E Q w h =
     let all : w - 0 ≡ w = omega arith in
-    record { bytes = h; within = omega arith; same = refl; least = rw all }
+    record { bytes = h; same = level_first t S R E; least = rw all }
 
 module _ (t : Table) (S R E Q w level height : ℕ) (searching : Searching t S R E Q w level height) where
   -- a state of Q is of this level
@@ -136,22 +119,19 @@ module _ (t : Table) (S R E Q w level height : ℕ) (searching : Searching t S R
   unfolding first
   searching_more m next b h e n f =
       let more : w - height ≡ suc (w - suc height) = omega arith in
-      let above : height + 1 ≡ suc height = omega arith in
       let here : near t S R E Q height ≡ false = rw searching.same at ((shared_test Q level b).0 (sym e ∙ n)) in
       record {
         bytes = rw f (or_lt 64 level (before t S R level) searching.bytes (before_bytes t S R level));
-        within = omega arith;
-        same = rw above (level_next t S R E height level next searching.same f);
-        least = rw above (rw (more, first, here) at searching.least);
+        same = level_next t S R E height level next searching.same f;
+        least = rw (add-one height) (rw (more, first, here) at searching.least);
       }
 
   -- none is below w
-  pub searching_ends : w ≤ height → w ≡ fewest t S R E Q w
+  pub searching_ends : height ≡ w → w ≡ fewest t S R E Q w
   unfolding first
-  searching_ends h =
+  searching_ends e =
       let none : w - height ≡ 0 = omega arith in
-      let last : height ≡ w = omega (arith, searching.within) in
-      sym (rw (none, last) at searching.least)
+      sym (rw (none, e) at searching.least)
 
 -- ---- what an optional part becomes
 

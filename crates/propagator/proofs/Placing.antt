@@ -1,11 +1,11 @@
 -- Step 5's loop over the places of a block, from the last to the first: the states kept, and the entries stored.
 -- Assumes nothing.
-use Prim.Native.Nat.{ℕ, zero, suc, ◌+◌, ◌-◌, ◌≤◌, ◌<◌}
+use Prim.Native.Nat.{ℕ, suc, ◌+◌, ◌-◌, ◌≤◌, ◌<◌}
 use mathlib.Core.Path.{◌≡◌, refl, sym, ap, ap₂, ◌∙◌}
 use mathlib.Core.Logic.{◌⊎◌, ⊎_elim}
 use mathlib.Core.List.{List, ◌∷◌}
 use native.Mathlib.Omega.{arith}
-use lib.ListN.{length, get_or, set, length-set, replicate}
+use lib.ListN.{set, replicate}
 use Rattle.model.specs.DashedString.{block}
 use Rattle.model.specs.Automaton.{Table}
 use Rattle.model.specs.Passes.{Segment, mandatory, before, between, forward, backward, pruned}
@@ -20,11 +20,6 @@ use Rattle.propagator.specs.Moves.{exactly}
 use Rattle.propagator.specs.Rows.{kept_to, entries_to, Becomes, Places, set_before, Writes}
 use Rattle.propagator.proofs.Keeping.{before_bytes}
 use Rattle.propagator.proofs.Rows.{set_before_is}
-
--- the set before a place that is not the first is stored
-pub set_stored : (first : ℕ) (sets : List ℕ) (at j : ℕ) → ¬ (j ≡ 0) → get_or sets (at + j - 1) 0 ≡ set_before first sets at j
-set_stored first sets at zero n = absurd (n refl)
-set_stored first sets at (suc j) n = let same : at + suc j - 1 ≡ at + j = omega arith in rw same
 
 -- between empty sets: nothing
 pub becomes_none : (t : Table) (S : ℕ) → t.states < 64 → Becomes t S 0 0 (record { from = 0; to = 0; letters = 0; states = 0 })
@@ -70,10 +65,6 @@ module _ (t : Table) (S first E i M : ℕ) (ss : List Segment) (e : M ≡ kept_t
 
 -- the places from j on are done
 pub record Placing (t : Table) (S first count end : ℕ) (a b c : List ℕ) (entry : ℕ) (a' b' c' : List ℕ) (states j : ℕ) : Type 0 where
-  pub within : j ≤ count
-  pub bases : length a' ≡ length a
-  pub lowers : length b' ≡ length b
-  pub uppers : length c' ≡ length c
   pub kept : states ≡ kept_to t end (exactly t S first j) (places S (count - j))
   pub stored : Writes a b c (entry + j) (entry + count) (entries_to t end (exactly t S first j) (places S (count - j))) a' b' c'
 
@@ -84,57 +75,40 @@ module _ (t : Table) (S first count end : ℕ) (a b c : List ℕ) (entry : ℕ) 
   placing_starts =
       let none : count - count ≡ 0 = omega arith in
       let empty : entry + count - (entry + count) ≡ 0 = omega arith in
-      record {
-        within = omega arith;
-        bases = refl;
-        lowers = refl;
-        uppers = refl;
-        kept = rw none;
-        stored = record { made = rw (none, empty); before = λ k h. refl; behind = λ k h. refl };
-      }
+      record { kept = rw none; stored = record { made = rw (none, empty); before = λ k h. refl; behind = λ k h. refl } }
 
-  module _ (a' b' c' : List ℕ) (states : ℕ) where
+  module _ (a' b' c' : List ℕ) (states j : ℕ) (placing : Placing t S first count end a b c entry a' b' c' states j) where
     -- all places are done
-    pub placing_ends : (j : ℕ) → Placing t S first count end a b c entry a' b' c' states j → j ≤ 0
+    pub placing_ends : j ≡ 0
         → (states ≡ kept_to t end first (places S count)) × Writes a b c entry (entry + count) (entries_to t end first (places S count)) a' b' c'
     unfolding exactly
-    placing_ends j placing h =
-        let none : j ≡ 0 = omega arith in
+    placing_ends none =
         let all : count - 0 ≡ count = omega arith in
         let same : entry + 0 ≡ entry = omega arith in
         (rw (none, all) at placing.kept, rw (none, all, same) at placing.stored)
 
     -- one place more, whose set before it is Q
-    pub placing_more : (j i Q : ℕ) (kept : Kept) (sets : List ℕ) (at : ℕ) (a'' b'' c'' : List ℕ) → j ≡ suc i
-        → Placing t S first count end a b c entry a' b' c' states j
-        → Enough a b c (entry + count) → Places t S first count sets at → Q ≡ set_before first sets at i → Becomes t S Q states kept
+    pub placing_more : (i Q : ℕ) (kept : Kept) (sets : List ℕ) (at : ℕ) (a'' b'' c'' : List ℕ) → j ≡ suc i → j ≤ count
+        → Enough a' b' c' (entry + count) → Places t S first count sets at → Q ≡ set_before first sets at i → Becomes t S Q states kept
         → a'' ≡ set a' (entry + i) kept.letters → b'' ≡ set b' (entry + i) 1 → c'' ≡ set c' (entry + i) 1
         → Placing t S first count end a b c entry a'' b'' c'' kept.states i
-    placing_more j i Q kept sets at a'' b'' c'' e placing enough stored q place d f g =
+    placing_more i Q kept sets at a'' b'' c'' e within room stored q place d f g =
         let old : Placing t S first count end a b c entry a' b' c' states (suc i) = rw e at placing in
         let ss = places S (count - suc i) in
-        let more : count - i ≡ suc (count - suc i) = omega (arith, old.within) in
+        let more : count - i ≡ suc (count - suc i) = omega arith in
         let next : entry + suc i ≡ suc (entry + i) = omega arith in
-        let here : Q ≡ exactly t S first i = q ∙ set_before_is t S first count sets at stored i (omega (arith, old.within)) in
+        let here : Q ≡ exactly t S first i = q ∙ set_before_is t S first count sets at stored i (omega arith) in
         let done : Becomes t S (exactly t S first i) states kept = rw here at place in
         let x = block kept.letters 1 1 in
-        let room : Enough a' b' c' (entry + count) = (omega (arith, old.bases), omega (arith, old.lowers), omega (arith, old.uppers)) in
         record {
-          within = omega (arith, old.within);
-          bases = rw (d, length-set) old.bases;
-          lowers = rw (f, length-set) old.lowers;
-          uppers = rw (g, length-set) old.uppers;
           kept = rw more (done.state ∙ kept_cons t S first end i states ss old.kept);
           stored = record {
             made =
                 rw (d, f, g, more)
-                (between_set a' b' c' (entry + i) (entry + count) (omega (arith, old.within)) room x
+                (between_set a' b' c' (entry + i) (entry + count) (omega arith) room x
                 ∙ ap₂ ◌∷◌ (ap (λ l. block l 1 1) done.letter) (rw next at old.stored.made)
                 ∙ entries_cons t S first end i states ss old.kept);
-            before =
-                rw (d, f, g) (λ k h. stored_other a' b' c' (entry + i) x k (λ (n : k ≡ entry + i). omega arith) ∙ old.stored.before k (omega arith));
-            behind =
-                rw (d, f, g)
-                (λ k h. stored_other a' b' c' (entry + i) x k (λ (n : k ≡ entry + i). omega (arith, old.within)) ∙ old.stored.behind k h);
+            before = rw (d, f, g) (λ k h. stored_other a' b' c' (entry + i) x k (λ (n : k ≡ entry + i). omega arith) ∙ old.stored.before k (omega arith));
+            behind = rw (d, f, g) (λ k h. stored_other a' b' c' (entry + i) x k (λ (n : k ≡ entry + i). omega arith) ∙ old.stored.behind k h);
           };
         }

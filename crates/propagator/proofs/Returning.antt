@@ -9,7 +9,7 @@ use lib.ListN.{length, get_or, take, drop, set, replicate, drop_of_length-le}
 use Rattle.model.specs.declared.Block.{Block}
 use Rattle.model.specs.DashedString.{block_at}
 use Rattle.model.specs.Set.{both}
-use Rattle.model.specs.Size.{WellFormed, Room, lower_sum}
+use Rattle.model.specs.Size.{lower_sum}
 use Rattle.model.specs.Automaton.{Table}
 use Rattle.model.specs.Passes.{mandatory, optional, segments_of, segments, at_most, backward, pruned, final}
 use Rattle.model.proofs.Set.{in_both}
@@ -19,7 +19,7 @@ use Rattle.bitset.proofs.Laws.{same_members}
 use Rattle.propagator.specs.Moves.{exactly}
 use Rattle.propagator.specs.Rows.{kept_to, entries_to, entering, Inside, Places, set_before, Stored, Writes}
 use Rattle.propagator.proofs.Rows.{sum_next, sum_mono, sum_all, block_final, entering_first, entering_next, set_before_is, kept_inside, block_kept, block_entries, kept_next, entries_next}
-use Rattle.propagator.proofs.Slices.{each_at, entry_is, between_first, between_none, between_append, between_same, writes_behind}
+use Rattle.propagator.proofs.Slices.{entry_is, between_first, between_none, between_append, between_same, writes_behind}
 
 -- a set within another is what is in both
 pub inside_both : (a b : ℕ) → a < 2 ^ 64 → b < 2 ^ 64 → Inside b a → both a b ≡ b
@@ -58,10 +58,6 @@ module _ (t : Table) (x : Block) (Q : ℕ) (sets : List ℕ) (at : ℕ) (stored 
 
 -- the blocks before i are what they were, and the entries of the others stand behind them
 pub record Returning (t : Table) (Q E : ℕ) (a b c : List ℕ) (n total : ℕ) (a' b' c' : List ℕ) (within kept at i : ℕ) : Type 0 where
-  pub bases : length a' ≡ length a
-  pub lowers : length b' ≡ length b
-  pub uppers : length c' ≡ length c
-  pub few : i ≤ n
   pub before : (k : ℕ) → k < i → numbered a' b' c' k ≡ numbered a b c k
   pub sum : at ≡ lower_sum (take i (blocks_of a b c n))
   pub here : within ≡ entering t Q (blocks_of a b c n) i
@@ -83,10 +79,6 @@ module _ (t : Table) (Q E : ℕ) (a b c : List ℕ) (n total : ℕ) (all : total
   returning_starts within e f =
       let none : drop n xs ≡ [] = drop_of_length-le xs {i = n} (omega (arith, size)) in
       record {
-        bases = refl;
-        lowers = refl;
-        uppers = refl;
-        few = omega arith;
         before = λ k h. refl;
         sum = all ∙ sym (sum_all xs n size);
         here = e;
@@ -97,69 +89,60 @@ module _ (t : Table) (Q E : ℕ) (a b c : List ℕ) (n total : ℕ) (all : total
 
   module _ (a' b' c' : List ℕ) (within kept at i : ℕ) (returning : Returning t Q E a b c n total a' b' c' within kept at i) where
     -- all blocks are taken
-    pub returning_ends : i ≤ 0 → blocks_of a' b' c' (total + n) ≡ entries_to t E Q (segments xs)
+    pub returning_ends : i ≡ 0 → blocks_of a' b' c' (total + n) ≡ entries_to t E Q (segments xs)
     unfolding lower_sum
-    returning_ends h =
-        let first : i ≡ 0 = omega arith in
+    returning_ends first =
         let start : at + i ≡ 0 = rw first (omega (arith, rw first at returning.sum)) in
         sym (between_first a' b' c' (total + n)) ∙ rw (start, first, entering_first t Q xs) at returning.made
 
     -- the next block, i - 1 = k
-    module _ (k : ℕ) (next : i ≡ suc k) (x : Block) (read : x ≡ numbered a' b' c' k) where
-      is : x ≡ block_at xs k
-      is = entry_is a b c n k x (read ∙ returning.before k (omega arith)) (omega (arith, returning.few))
-
+    module _ (k : ℕ) (next : i ≡ suc k) (few : i ≤ n) (x : Block) (read : x ≡ numbered a' b' c' k) where
       there : k < length xs
-      there = omega (arith, size, returning.few)
+      there = omega (arith, size)
 
-      low : x.lower ≡ (block_at xs k).lower
-      low = ap (λ y. y.lower) is
+      -- it is what it was
+      pub returning_read : x ≡ numbered a b c k
+      returning_read = read ∙ returning.before k (omega arith)
+
+      is : x ≡ block_at xs k
+      is = entry_is a b c n k x returning_read (omega arith)
 
       -- its sets begin where those of the blocks before end
       returning_sum : at ≡ lower_sum (take k xs) + x.lower
-      returning_sum = omega (arith, low, rw next at returning.sum, sum_next xs k there)
+      returning_sum = let low : x.lower ≡ (block_at xs k).lower = ap (λ y. y.lower) is in omega (arith, low, rw next at returning.sum, sum_next xs k there)
 
       -- its entries end where the others begin
       pub returning_end : (x.lower ≤ at) × (at ≤ total) × (at - x.lower + k + x.lower + 1 ≤ total + n)
       returning_end =
-          let most : at ≤ total = omega (arith, returning.sum, sum_mono xs i n returning.few, sum_all xs n size) in
-          (omega (arith, returning_sum), most, omega (arith, returning_sum, returning.few))
-
-      -- it is well formed
-      pub returning_formed : (m : ℕ) → Room m xs → WellFormed m x
-      returning_formed m room = rw is (each_at (WellFormed m) xs room.each k there)
+          let most : at ≤ total = omega (arith, returning.sum, sum_mono xs i n few, sum_all xs n size) in
+          (omega (arith, returning_sum), most, omega (arith, returning_sum))
 
       module _ (firsts sets : List ℕ) (stored : Stored t Q xs n firsts sets) where
         first_is : get_or firsts k 0 ≡ entering t Q xs k
-        first_is = stored.first k (omega (arith, returning.few))
+        first_is = stored.first k (omega arith)
+
+        from : at - x.lower ≡ lower_sum (take k xs)
+        from = omega (arith, returning_sum)
 
         -- its sets are stored
         pub returning_places : Places t x.base (get_or firsts k 0) x.lower sets (at - x.lower)
-        returning_places =
-            let from : at - x.lower ≡ lower_sum (take k xs) = omega (arith, returning_sum) in
-            rw (from, first_is, is) (stored.places k (omega (arith, returning.few)))
+        returning_places = rw (from, first_is, is) (stored.places k (omega arith))
 
         -- its R is what stands before the next block
         pub returning_within : within ≡ final t (get_or firsts k 0) (segments_of x)
         returning_within = rw (returning.here, next, first_is, is) (entering_next t Q xs k there)
 
         -- its entries are written
-        pub returning_more : (a'' b'' c'' : List ℕ) (r : ℕ) → length a'' ≡ length a' → length b'' ≡ length b' → length c'' ≡ length c'
-            → r ≡ kept_to t kept (get_or firsts k 0) (segments_of x)
+        pub returning_more : (a'' b'' c'' : List ℕ) (r : ℕ) → r ≡ kept_to t kept (get_or firsts k 0) (segments_of x)
             → Writes a' b' c' (at - x.lower + k) (at - x.lower + k + x.lower + 1) (entries_to t kept (get_or firsts k 0) (segments_of x)) a'' b'' c''
             → Returning t Q E a b c n total a'' b'' c'' (get_or firsts k 0) r (at - x.lower) k
-        returning_more a'' b'' c'' r la lb lc e w =
-            let from : at - x.lower ≡ lower_sum (take k xs) = omega (arith, returning_sum) in
+        returning_more a'' b'' c'' r e w =
             let behind : at - x.lower + k + x.lower + 1 ≡ at + i = omega (arith, returning_sum) in
             let rest = rw next at returning.states in
             let first : blocks_between a'' b'' c'' (at - x.lower + k) (at + i) ≡ entries_to t kept (get_or firsts k 0) (segments_of x) = rw (← behind) w.made in
             let others : blocks_between a'' b'' c'' (at + i) (total + n) ≡ entries_to t E (entering t Q xs (suc k)) (segments (drop (suc k) xs))
             = rw (← next) (between_same a' b' c' a'' b'' c'' (at + i) (total + n) (λ j h. w.behind j (omega (arith, behind))) ∙ returning.made) in
             record {
-              bases = la ∙ returning.bases;
-              lowers = lb ∙ returning.lowers;
-              uppers = lc ∙ returning.uppers;
-              few = omega (arith, returning.few);
               before = λ j h. w.before j (omega arith) ∙ returning.before j (omega arith);
               sum = from;
               here = first_is;
@@ -169,7 +152,7 @@ module _ (t : Table) (Q E : ℕ) (a b c : List ℕ) (n total : ℕ) (all : total
                   (λ p l. rw (← returning_within) (returning.inside p l)) q (rw e at m);
               states = rw (e, first_is, rest, is) (sym (kept_next t E Q xs k there));
               made =
-                  between_append a'' b'' c'' (at - x.lower + k) (at + i) (total + n) (omega (arith, behind)) (omega (arith, returning.few, returning_end))
+                  between_append a'' b'' c'' (at - x.lower + k) (at + i) (total + n) (omega (arith, behind)) (omega (arith, returning_end))
                   ∙ ap₂ ◌++◌ first others
                   ∙ rw (first_is, rest, is) (sym (entries_next t E Q xs k there));
             }

@@ -1,14 +1,11 @@
 -- The states reached by at most so many letters, round by round: each round steps from the states alone that the last one added.
 -- Assumes nothing.
-use Prim.Native.Nat.{ℕ, suc, ◌-◌, ◌^◌, ◌≤◌, ◌<◌}
+use Prim.Native.Nat.{ℕ, ◌+◌, ◌^◌, ◌≤◌, ◌<◌}
 use mathlib.Core.Path.{◌≡◌, refl, sym, ◌∙◌}
 use mathlib.Core.Logic.{◌⊎◌, inl, inr, ⊎_elim, ⊎_map}
 use mathlib.Core.Bool.{not}
-use mathlib.Core.List.{List}
-use native.Mathlib.Nat.{le_refl, sub_self}
-use native.Mathlib.Omega.{arith}
+use native.Mathlib.Numerals.{add-one}
 use lib.Bits.{or_lt, or_zero_r}
-use lib.ListN.{length}
 use Rattle.model.specs.Set.{has, Member, either}
 use Rattle.model.specs.Automaton.{Table}
 use Rattle.model.specs.Passes.{after, rounds, at_most}
@@ -16,7 +13,6 @@ use Rattle.model.proofs.Set.{in_either, members_bytes}
 use Rattle.model.proofs.Steps.{rounds_stay, in_after}
 use Rattle.bitset.specs.Difference.{difference}
 use Rattle.bitset.proofs.Laws.{same_members, in_difference}
-use Rattle.propagator.specs.Known.{Known}
 use Rattle.propagator.proofs.Gathering.{inside_or_not}
 use Rattle.propagator.proofs.Letters.{after_bytes}
 
@@ -29,86 +25,62 @@ difference_bytes : (s t : ℕ) → difference s t < 2 ^ 64
 unfolding difference
 difference_bytes s t = members_bytes s (λ i. not (has t i))
 
--- all is what the rounds so far reach, and the states after one letter from there are in it, or after one letter from the front
-pub record Reaching (t : Table) (S Q width : ℕ) (old known : List ℕ) (all front left : ℕ) : Type 0 where
-  pub size : length known ≡ length old
-  pub right : Known t S known
-  pub short : left ≤ width
-  pub reached : all ≡ at_most t S Q (width - left)
+-- all is what this many rounds reach, and the states after one letter from there are in it, or after one letter from the front
+pub record Reaching (t : Table) (S Q all front done : ℕ) : Type 0 where
+  pub reached : all ≡ at_most t S Q done
   pub bytes : all < 2 ^ 64
   pub inside : (x : ℕ) → Member x front → Member x all
   pub ahead : (x : ℕ) → Member x (after t S all) → Member x all ⊎ Member x (after t S front)
 
 -- before the first round
-pub reaching_starts : (t : Table) (S Q width : ℕ) (known : List ℕ) → Known t S known → Q < 2 ^ 64 → Reaching t S Q width known known Q Q width
+pub reaching_starts : (t : Table) (S Q : ℕ) → Q < 2 ^ 64 → Reaching t S Q Q Q 0
 unfolding rounds
-reaching_starts t S Q width known k b =
-    record {
-      size = refl;
-      right = k;
-      short = le_refl width;
-      reached = rw (sub_self width);
-      bytes = b;
-      inside = λ x m. m;
-      ahead = λ x m. inr m;
-    }
+reaching_starts t S Q b = record { reached = refl; bytes = b; inside = λ x m. m; ahead = λ x m. inr m }
 
-module _ (t : Table) (fits : t.states < 64) (S Q width : ℕ) (old known : List ℕ) (all front left : ℕ)
-    (reaching : Reaching t S Q width old known all front left) (more : 0 < left) where
-  module _ (r new : ℕ) (stepped : r ≡ after t S front) (added : new ≡ difference r all) where
-    -- a state after one letter is there, or new
-    new_ahead : (x : ℕ) → Member x (after t S all) → Member x all ⊎ Member x new
-    new_ahead x m = rw added (⊎_elim inl (λ n. in_or_left r all (rw stepped n)) (reaching.ahead x m))
+module _ (t : Table) (fits : t.states < 64) (S Q all front done : ℕ) (reaching : Reaching t S Q all front done) (r new : ℕ)
+    (stepped : r ≡ after t S front) (added : new ≡ difference r all) where
+  -- a state after one letter is there, or new
+  new_ahead : (x : ℕ) → Member x (after t S all) → Member x all ⊎ Member x new
+  new_ahead x m = rw added (⊎_elim inl (λ n. in_or_left r all (rw stepped n)) (reaching.ahead x m))
 
-    -- a new state is after one letter
-    new_after : (x : ℕ) → Member x new → Member x (after t S all)
-    new_after x m =
-        let (q, n, c, l, e) = (in_after t fits S front).0 (rw stepped at ((in_difference r all).0 (rw added at m)).0) in
-        (in_after t fits S all).1 (q, reaching.inside q n, c, l, e)
+  -- a new state is after one letter
+  new_after : (x : ℕ) → Member x new → Member x (after t S all)
+  new_after x m =
+      let (q, n, c, l, e) = (in_after t fits S front).0 (rw stepped at ((in_difference r all).0 (rw added at m)).0) in
+      (in_after t fits S all).1 (q, reaching.inside q n, c, l, e)
 
-    -- what is there and the states after one letter
-    next_bytes : either all (after t S all) < 2 ^ 64
-    next_bytes = or_lt 64 all (after t S all) reaching.bytes (after_bytes t fits S all)
+  -- what is there and the states after one letter
+  next_bytes : either all (after t S all) < 2 ^ 64
+  next_bytes = or_lt 64 all (after t S all) reaching.bytes (after_bytes t fits S all)
 
-    -- the new states are what the next round adds
-    next_same : either all new ≡ either all (after t S all)
-    next_same =
-        same_members (either all new) (either all (after t S all)) (or_lt 64 all new reaching.bytes (rw added (difference_bytes r all))) next_bytes
-        (λ x. (
-          λ m. (in_either all (after t S all)).1 (⊎_map (λ n. n) (new_after x) ((in_either all new).0 m)),
-          λ m. (in_either all new).1 (⊎_elim inl (new_ahead x) ((in_either all (after t S all)).0 m)),
-        ))
+  -- the new states are what the next round adds
+  next_same : either all new ≡ either all (after t S all)
+  next_same =
+      same_members (either all new) (either all (after t S all)) (or_lt 64 all new reaching.bytes (rw added (difference_bytes r all))) next_bytes
+      (λ x. (
+        λ m. (in_either all (after t S all)).1 (⊎_map (λ n. n) (new_after x) ((in_either all new).0 m)),
+        λ m. (in_either all new).1 (⊎_elim inl (new_ahead x) ((in_either all (after t S all)).0 m)),
+      ))
 
-    -- nothing is new
-    pub reaching_stops : new ≡ 0 → all ≡ at_most t S Q width
-    reaching_stops e =
-        let same : either all (after t S all) ≡ all = sym next_same ∙ rw e (or_zero_r all) in
-        reaching.reached ∙ sym (rounds_stay (after t S) Q (width - left) width (rw reaching.reached at same) (omega arith))
+  -- nothing is new: more rounds reach no more
+  pub reaching_stops : (width : ℕ) → new ≡ 0 → done ≤ width → all ≡ at_most t S Q width
+  reaching_stops width e h =
+      let same : either all (after t S all) ≡ all = sym next_same ∙ rw e (or_zero_r all) in
+      reaching.reached ∙ sym (rounds_stay (after t S) Q done width (rw reaching.reached at same) h)
 
-    -- something is
-    pub reaching_more : (known' : List ℕ) (all' : ℕ) → length known' ≡ length known → Known t S known' → all' ≡ either all new
-        → Reaching t S Q width old known' all' new (left - 1)
-    unfolding rounds
-    reaching_more known' all' s k d =
-        let one : width - (left - 1) ≡ suc (width - left) = omega (arith, reaching.short) in
-        let parts : (q : ℕ) → Member q all' → Member q all ⊎ Member q new = λ q n. (in_either all new).0 (rw d at n) in
-        record {
-          size = s ∙ reaching.size;
-          right = k;
-          short = omega (arith, reaching.short);
-          reached = rw (one, ← reaching.reached) (d ∙ next_same);
-          bytes = rw (d, next_same) next_bytes;
-          inside = λ x m. rw d ((in_either all new).1 (inr m));
-          ahead = λ x m.
-              let (q, n, c, l, e) = (in_after t fits S all').0 m in
-              ⊎_elim
-              (λ o. inl (rw (d, next_same) ((in_either all (after t S all)).1 (inr ((in_after t fits S all).1 (q, o, c, l, e))))))
-              (λ o. inr ((in_after t fits S new).1 (q, o, c, l, e)))
-              (parts q n);
-        }
-
--- no round is left
-pub reaching_ends : (t : Table) (S Q width : ℕ) (old known : List ℕ) (all front left : ℕ)
-    → Reaching t S Q width old known all front left → left ≡ 0 → all ≡ at_most t S Q width
-reaching_ends t S Q width old known all front left reaching e =
-    let whole : width - left ≡ width = omega arith in rw whole at reaching.reached
+  -- something is
+  pub reaching_more : (all' : ℕ) → all' ≡ either all new → Reaching t S Q all' new (done + 1)
+  unfolding rounds
+  reaching_more all' d =
+      let parts : (q : ℕ) → Member q all' → Member q all ⊎ Member q new = λ q n. (in_either all new).0 (rw d at n) in
+      record {
+        reached = rw (add-one done, ← reaching.reached) (d ∙ next_same);
+        bytes = rw (d, next_same) next_bytes;
+        inside = λ x m. rw d ((in_either all new).1 (inr m));
+        ahead = λ x m.
+            let (q, n, c, l, e) = (in_after t fits S all').0 m in
+            ⊎_elim
+            (λ o. inl (rw (d, next_same) ((in_either all (after t S all)).1 (inr ((in_after t fits S all).1 (q, o, c, l, e))))))
+            (λ o. inr ((in_after t fits S new).1 (q, o, c, l, e)))
+            (parts q n);
+      }

@@ -9,8 +9,10 @@ use lib.ListN.{length, drop, set}
 use lib.Seq.{get_or-drop}
 use Rattle.model.specs.declared.Block.{Block}
 use Rattle.model.specs.DashedString.{block_at, values, Each}
+use Rattle.model.specs.Size.{WellFormed, Room}
 use Rattle.records.specs.Written.{numbered, blocks_of, blocks_between, Enough}
 use Rattle.records.proofs.Copies.{stored_here, stored_other}
+use Rattle.records.proofs.Stores.{length_values}
 use Rattle.propagator.specs.Rows.{Writes}
 
 -- ---- values of a function
@@ -35,7 +37,7 @@ values_at f (suc k) zero h = refl
 values_at f (suc k) (suc j) h = values_at (λ j. f (suc j)) k j (omega arith)
 
 -- what each block has, block i has
-pub each_at : (P : Block → Type 0) (xs : List Block) → Each P xs → (i : ℕ) → i < length xs → P (block_at xs i)
+each_at : (P : Block → Type 0) (xs : List Block) → Each P xs → (i : ℕ) → i < length xs → P (block_at xs i)
 each_at P [] e i h = absurd (omega arith)
 each_at P (x ∷ xs) e zero h = e.0
 each_at P (x ∷ xs) e (suc i) h = each_at P xs e.1 i (omega arith)
@@ -50,6 +52,12 @@ module _ (a b c : List ℕ) where
   -- a block read there
   pub entry_is : (k i : ℕ) (x : Block) → x ≡ numbered a b c i → i < k → x ≡ block_at (blocks_of a b c k) i
   entry_is k i x e h = rw (entry_at_lem k i h) e
+
+  -- it is well formed, where each is
+  pub entry_formed : (k i m : ℕ) (x : Block) → x ≡ numbered a b c i → i < k → Room m (blocks_of a b c k) → WellFormed m x
+  entry_formed k i m x e h room =
+      let size : length (blocks_of a b c k) ≡ k = length_values (numbered a b c) k in
+      rw (entry_is k i x e h) (each_at (WellFormed m) (blocks_of a b c k) room.each i (omega arith))
 
   -- the entries from i up to end, each by its number
   between_values : (i end : ℕ) → blocks_between a b c i end ≡ values (λ j. numbered a b c (i + j)) (end - i)

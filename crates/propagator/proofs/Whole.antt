@@ -1,20 +1,22 @@
 -- Both passes over a whole mask.
 -- Assumes nothing.
-use Prim.Native.Nat.{ℕ, ◌^◌}
+use Prim.Native.Nat.{ℕ, ◌+◌, ◌^◌}
 use mathlib.Core.Path.{◌≡◌, refl, sym, ◌∙◌}
 use mathlib.Core.List.{List}
 use native.Mathlib.Omega.{arith}
-use lib.Dec.{T}
 use lib.ListN.{length, get_or, set, length-set}
 use lib.Seq.{get_or-set_same}
 use Rattle.model.specs.declared.Block.{Block}
 use Rattle.model.specs.Set.{has, both, either}
 use Rattle.model.specs.Automaton.{Dfa, Table}
-use Rattle.model.specs.Passes.{segments, finals, narrowed_list}
+use Rattle.model.specs.Passes.{segments, finals}
 use Rattle.model.specs.Verdict.{some_legal}
 use Rattle.model.proofs.Set.{member, in_none, in_both, some_member_lem}
+use Rattle.model.specs.Size.{lower_sum}
+use Rattle.records.specs.Written.{numbered, blocks_of}
+use Rattle.records.proofs.Stores.{length_values}
 use Rattle.propagator.specs.Known.{Targets, Known}
-use Rattle.propagator.specs.Rows.{entries_to, entering, Inside}
+use Rattle.propagator.specs.Rows.{entries_to, entering, Inside, Leaves}
 use Rattle.propagator.proofs.Remembered.{unwritten, cleared}
 use Rattle.propagator.proofs.Rows.{entering_last, list_whole}
 
@@ -40,25 +42,35 @@ known_none t known B size targets =
     no_letter : get_or (set (set (set known 64 0) 130 0) 132 B) 130 0 ≡ 0
     no_letter = cleared (set known 64 0) 130 132 B (rw (length-set known 64 0, size) (omega arith)) (λ e. omega arith)
 
-module _ (d : Dfa) (xs : List Block) (n start states : ℕ) (first : start ≡ either 0 (2 ^ d.start)) (behind : states ≡ entering d.table start xs n)
-    (size : length xs ≡ n) where
+module _ (d : Dfa) (a b c : List ℕ) (n start states sum : ℕ) (first : start ≡ either 0 (2 ^ d.start))
+    (behind : states ≡ entering d.table start (blocks_of a b c n) n) (all : sum ≡ lower_sum (blocks_of a b c n))
+    (end : ℕ) (e : end ≡ both states d.accepting) where
+  abbrev xs : List Block
+  xs = blocks_of a b c n
+
   -- step 2's states
-  pub pass_finals : states ≡ finals d xs
+  whole : states ≡ finals d xs
   unfolding finals
-  pass_finals = rw (behind, first) (entering_last d (2 ^ d.start) xs n size)
+  whole = rw (behind, first) (entering_last d (2 ^ d.start) xs n (length_values (numbered a b c) n))
 
-  module _ (end : ℕ) (e : end ≡ both states d.accepting) where
-    -- the states kept are possible
-    pub pass_inside : Inside end states
-    pass_inside q m = ((in_both states d.accepting {i = q}).0 (rw e at m)).0
+  -- the states kept are possible
+  pub pass_inside : Inside end states
+  pass_inside q m = ((in_both states d.accepting {i = q}).0 (rw e at m)).0
 
+  module _ (a' b' c' : List ℕ) where
     -- none is kept: no code is legal
-    pub pass_none : end ≡ 0 → T (some_legal d xs) → ⊥
+    pub pass_none : end ≡ 0 → Leaves d a b c n a' b' c' (record { states = states; entries = sum + n })
     unfolding some_legal
-    pass_none z t =
-        let (q, m, h) = (some_member_lem (finals d xs) (has d.accepting)).0 t in
-        in_none (rw (← e, z) at ((in_both states d.accepting {i = q}).1 (rw pass_finals m, member m.small h)))
+    pass_none z =
+        record {
+          states = whole;
+          entries = omega arith;
+          list = λ t.
+              let (q, m, h) = (some_member_lem (finals d xs) (has d.accepting)).0 t in
+              absurd (in_none (rw (← e, z) at ((in_both states d.accepting {i = q}).1 (rw whole m, member m.small h))));
+        }
 
     -- else the entries are the narrowed list
-    pub pass_list : (ys : List Block) → ys ≡ entries_to d.table end start (segments xs) → ys ≡ narrowed_list d xs
-    pass_list ys f = f ∙ rw (e, first, pass_finals) (sym (list_whole d xs))
+    pub pass_some : blocks_of a' b' c' (sum + n) ≡ entries_to d.table end start (segments xs)
+        → Leaves d a b c n a' b' c' (record { states = states; entries = sum + n })
+    pass_some f = record { states = whole; entries = omega arith; list = λ t. f ∙ rw (e, first, whole) (sym (list_whole d xs)) }

@@ -6,7 +6,7 @@ ghost use Rattle.model.specs.Passes.{segments_of, final};
 ghost use Rattle.records.specs.Written.{blocks_of, Enough};
 ghost use Rattle.propagator.specs.Moves.{Usable, Below, table, exactly};
 ghost use Rattle.propagator.specs.Known.{Known};
-ghost use Rattle.propagator.specs.Rows.{Keeps, Same, Places, Stored, entering};
+ghost use Rattle.propagator.specs.Rows.{Keeps, Places, Stored, entering};
 
 use crate::Shape;
 use crate::known::{step, turn_to};
@@ -17,19 +17,6 @@ use model::Block;
 pub(crate) struct Behind {
     pub states: u64,
     pub sum: usize,
-}
-
-// Makes the elements from `at` up to `end` the same set.
-fn repeat(sets: &mut [u64], at: usize, end: usize, set: u64)
-    requires { end ≤ length sets.old }
-    ensures same { Same sets.new at end set }
-    ensures keeps { Keeps sets.old sets.new at }
-{
-    let mut i = at;
-    while i < end {
-        sets[i] = set;
-        i += 1;
-    }
 }
 
 // Stores Q1 to Ql, `count` sets, from element `at` on, where `from` is Q0; returns Ql. Where a set repeats, all that follow
@@ -52,16 +39,14 @@ fn fill_places(
     ensures keeps { Keeps sets.old sets.new at }
 {
     let mut set = from;
-    let mut j = 0;
-    while j < count {
+    for j in 0..count {
         let next = step(shape, moves, base, known, set);
         if next == set {
-            repeat(sets, at + j, at + count, set);
+            sets[at + j..at + count].fill(set);
             return set;
         }
         sets[at + j] = next;
         set = next;
-        j += 1;
     }
     set
 }
@@ -76,14 +61,12 @@ fn reached(shape: Shape, moves: &[u8], base: u64, known: &mut [u64], from: u64, 
 {
     let mut all = from;
     let mut front = from;
-    let mut left = width;
-    while 0 < left {
+    for _ in 0..width {
         front = bitset::difference(step(shape, moves, base, known, front), all);
         if front == 0 {
             return all;
         }
         all = bitset::union(all, front);
-        left -= 1;
     }
     all
 }
@@ -138,13 +121,11 @@ pub(crate) fn go_ahead(
 {
     let mut states = start;
     let mut at = 0;
-    let mut i = 0;
-    while i < count {
+    for i in 0..count {
         firsts[i] = states;
         let block = normal_form::block_at(bases, lowers, uppers, i);
         states = pass_block(shape, moves, block, known, states, sets, at);
         at += block.lower as usize;
-        i += 1;
     }
     Behind { states, sum: at }
 }

@@ -96,9 +96,7 @@ pub(crate) fn go_back(
     let mut within = behind;
     let mut kept = end;
     let mut at = total;
-    let mut i = count;
-    while 0 < i {
-        i -= 1;
+    for i in (0..count).rev() {
         let block = normal_form::block_at(bases, lowers, uppers, i);
         let first = firsts[i];
         at -= block.lower as usize;

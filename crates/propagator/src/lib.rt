@@ -65,11 +65,10 @@ pub fn pass(
     );
     let entries = sum + count;
     let end = bitset::intersection(states, book.accepting);
-    if end == 0 {
-        return Passed { states, entries };
+    if end != 0 {
+        go_back(
+            shape, moves, bases, lowers, uppers, count, start, firsts, sets, states, end, sum,
+        );
     }
-    go_back(
-        shape, moves, bases, lowers, uppers, count, start, firsts, sets, states, end, sum,
-    );
     Passed { states, entries }
 }

@@ -43,14 +43,12 @@ fn level_of(shape: Shape, moves: &[u8], base: u64, within: u64, end: u64, height
     ensures { result ≡ to_end (table shape moves.now) base within end height }
 {
     let mut level = end;
-    let mut left = height;
-    while 0 < left {
+    for _ in 0..height {
         let next = raise(shape, moves, base, within, level);
         if next == level {
             return level;
         }
         level = next;
-        left -= 1;
     }
     level
 }
@@ -69,13 +67,11 @@ fn fewest(
     ensures { result ≡ passes.fewest (table shape moves.now) base within end from width }
 {
     let mut level = end;
-    let mut height = 0;
-    while height < width {
+    for height in 0..width {
         if bitset::intersection(from, level) != 0 {
             return height;
         }
         level = raise(shape, moves, base, within, level);
-        height += 1;
     }
     width
 }

@@ -50,10 +50,7 @@ pub(crate) fn set_before(first: u64, sets: &[u64], at: usize, j: usize) -> u64
     requires { at + j ≤ length sets.now }
     ensures { result ≡ set_before first sets.now at j }
 {
-    if j == 0 {
-        return first;
-    }
-    sets[at + j - 1]
+    if j == 0 { first } else { sets[at + j - 1] }
 }
 
 // The places of a block, `count` of them, from the last to the first: their entries are those from `entry` on, `end` are the
@@ -85,9 +82,7 @@ pub(crate) fn narrow_places(
 {
     let mut kept = last;
     let mut states = end;
-    let mut j = count;
-    while 0 < j {
-        j -= 1;
+    for j in (0..count).rev() {
         let before = set_before(first, sets, at, j);
         if before != kept.from || states != kept.to {
             kept = narrow_place(shape, moves, base, before, states);

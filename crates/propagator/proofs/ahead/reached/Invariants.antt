@@ -1,9 +1,7 @@
 use Rattle.propagator.specs.Moves.{table}
+use Rattle.propagator.specs.Known.{Known}
 use Rattle.propagator.proofs.Rounds.{Reaching}
 use Rattle.propagator.proofs.ahead.reached.Given as goal
 
-abbrev pub invariant-loop-left : goal.invariant-loop-left
-invariant-loop-left l = Reaching (table l.shape l.moves) l.base l.from l.width l.initial.known l.known l.all l.front l.left
-
-abbrev pub decreases-loop-left : goal.decreases-loop-left
-decreases-loop-left l = l.left
+abbrev pub invariant-loop : goal.invariant-loop
+invariant-loop l = let t = table l.shape l.moves in record { right : Known t l.base l.known; reaching : Reaching t l.base l.from l.all l.front l.counter }

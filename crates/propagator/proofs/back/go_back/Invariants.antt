@@ -4,6 +4,3 @@ use Rattle.propagator.proofs.back.go_back.Given as goal
 
 abbrev pub invariant-loop-i : goal.invariant-loop-i
 invariant-loop-i l = Returning (table l.shape l.moves) l.start l.end l.initial.bases l.initial.lowers l.initial.uppers l.count l.total l.bases l.lowers l.uppers l.within l.kept l.at l.i
-
-abbrev pub decreases-loop-i : goal.decreases-loop-i
-decreases-loop-i l = l.i

@@ -8,13 +8,13 @@ pub loop-height-init : goal.loop-height-init
 loop-height-init c = searching_starts _ _ _ _ _ _ (search rules)
 
 pub returns-then-intersection-ne0 : goal.returns-then-intersection-ne0
-returns-then-intersection-ne0 c = searching_met _ _ _ _ _ _ _ _ c.loop-height.invariant _ (search rules) (omega arith) c.intersection.ensures c.if-intersection-ne0.true
-
-pub raise-level-requires : goal.raise-level-requires
-raise-level-requires c = c.requires
+returns-then-intersection-ne0 c =
+    searching_met _ _ _ _ _ _ _ _ c.loop-height.invariant _ (search rules) (omega arith) c.intersection.ensures c.if-intersection-ne0.true
 
 pub loop-height-preserved : goal.loop-height-preserved
-loop-height-preserved c = searching_more _ _ _ _ _ _ _ _ c.loop-height.invariant _ _ (search rules) (omega arith) c.intersection.ensures c.if-intersection-ne0.false c.raise-level.ensures
+loop-height-preserved c =
+    searching_more _ _ _ _ _ _ _ _ c.loop-height.invariant _ _ (search rules) (omega arith) c.intersection.ensures c.if-intersection-ne0.false
+    c.raise-level.ensures
 
 pub returns : goal.returns
 returns c = searching_ends _ _ _ _ _ _ _ _ c.loop-height.invariant (omega arith)

@@ -4,9 +4,7 @@ use Rattle.propagator.proofs.Placing.{Placing}
 use Rattle.propagator.proofs.places.narrow_places.Given as goal
 
 abbrev pub invariant-loop-j : goal.invariant-loop-j
-invariant-loop-j l =
-    Becomes (table l.shape l.moves) l.base l.kept.from l.kept.to l.kept
-    × Placing (table l.shape l.moves) l.base l.first l.count l.end l.initial.bases l.initial.lowers l.initial.uppers l.entry l.bases l.lowers l.uppers l.states l.j
-
-abbrev pub decreases-loop-j : goal.decreases-loop-j
-decreases-loop-j l = l.j
+invariant-loop-j l = let t = table l.shape l.moves in record {
+  last : Becomes t l.base l.kept.from l.kept.to l.kept;
+  placing : Placing t l.base l.first l.count l.end l.initial.bases l.initial.lowers l.initial.uppers l.entry l.bases l.lowers l.uppers l.states l.j;
+}
