@@ -12,16 +12,15 @@ use model::Block;
 
 // Makes the normal form of the first `count` blocks, whose sets and bounds the three slices hold, from the last block to the
 // first. It stands at the end of these: from the entry whose number is returned up to `count`.
+#[tactic(auto, using(crate::proofs::Turns::normal_none, crate::proofs::Turns::room_normal))]
 pub fn normalize(bases: &mut [u64], lowers: &mut [u16], uppers: &mut [u16], count: usize) -> usize
     requires enough { Enough bases.old lowers.old uppers.old count }
     requires room { Room 64 (blocks_of bases.old lowers.old uppers.old count) }
     ensures { let made = blocks_between bases.new lowers.new uppers.new result count in
         (result ≤ count) × (made ≡ normal (blocks_of bases.old lowers.old uppers.old count)) }
 {
-    let mut i = count;
     let mut at = count;
-    while 0 < i {
-        i -= 1;
+    for i in (0..count).rev() {
         at = push(bases, lowers, uppers, i, at, count);
     }
     at
@@ -43,36 +42,24 @@ fn push(
     ensures { Pushed bases.old lowers.old uppers.old i at end
         bases.new lowers.new uppers.new result }
 {
-    let block = Block {
-        base: bases[i],
-        lower: lowers[i],
-        upper: uppers[i],
-    };
+    let block = block_at(bases, lowers, uppers, i);
     if idle(block) {
-        return at;
+        at
+    } else if at < end && block.base == bases[at] {
+        lowers[at] += block.lower;
+        uppers[at] += block.upper;
+        at
+    } else {
+        store(bases, lowers, uppers, at - 1, block);
+        at - 1
     }
-    if at < end {
-        if block.base == bases[at] {
-            lowers[at] = block.lower + lowers[at];
-            uppers[at] = block.upper + uppers[at];
-            return at;
-        }
-    }
-    store(bases, lowers, uppers, at - 1, block);
-    at - 1
 }
 
 // Whether a block is dropped: u = 0, or an empty set and l = 0.
 fn idle(block: Block) -> bool
     ensures { result ≡ idle block }
 {
-    if block.upper == 0 {
-        return true;
-    }
-    if block.base == 0 {
-        return block.lower == 0;
-    }
-    false
+    block.upper == 0 || block.base == 0 && block.lower == 0
 }
 
 // Stores a block as entry `at`.
