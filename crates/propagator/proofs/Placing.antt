@@ -1,37 +1,22 @@
 -- Step 5's loop over the places of a block, from the last to the first: the states kept, and the entries stored.
 -- Assumes nothing.
-use Prim.Native.Nat.{ℕ, suc, ◌+◌, ◌-◌, ◌≤◌, ◌<◌}
+use Prim.Native.Nat.{ℕ, suc, ◌+◌, ◌-◌, ◌≤◌}
 use mathlib.Core.Path.{◌≡◌, refl, sym, ap, ap₂, ◌∙◌}
-use mathlib.Core.Logic.{◌⊎◌, ⊎_elim}
+use mathlib.Core.Logic.{◌⊎◌, inl, inr}
 use mathlib.Core.List.{List, ◌∷◌}
 use native.Mathlib.Omega.{arith}
+use Rattle.std.specs.Prelude.{Option, Some, IfSome}
 use lib.ListN.{set, replicate}
 use Rattle.model.specs.DashedString.{block}
 use Rattle.model.specs.Automaton.{Table}
 use Rattle.model.specs.Passes.{Segment, mandatory, before, between, forward, backward, pruned}
-use Rattle.model.proofs.Set.{in_none}
-use Rattle.model.proofs.Steps.{between_bytes, in_before, in_between}
-use Rattle.bitset.proofs.Laws.{same_members}
 use Rattle.records.specs.Written.{Enough}
 use Rattle.records.proofs.Copies.{stored_other}
 use Rattle.normal_form.proofs.Steps.{between_set}
 use Rattle.propagator.specs.declared.places.Kept.{Kept}
 use Rattle.propagator.specs.Moves.{exactly}
 use Rattle.propagator.specs.Rows.{kept_to, entries_to, Becomes, Places, set_before, Writes}
-use Rattle.propagator.proofs.Keeping.{before_bytes}
 use Rattle.propagator.proofs.Rows.{set_before_is}
-
--- between empty sets: nothing
-pub becomes_none : (t : Table) (S : ℕ) → t.states < 64 → Becomes t S 0 0 (record { from = 0; to = 0; letters = 0; states = 0 })
-becomes_none t S fits =
-    record {
-      letter =
-          same_members 0 (between t S 0 0) (omega arith) (between_bytes t S 0 0)
-          (λ c. (λ h. absurd (in_none h), λ h. let (n, q, k, e) = (in_between t fits S 0 0).0 h in absurd (in_none k)));
-      state =
-          same_members 0 (before t S 0 0) (omega arith) (before_bytes t S 0 0)
-          (λ q. (λ h. absurd (in_none h), λ h. let (n, c, k, e) = (in_before t fits S 0 0).0 h in absurd (in_none n)));
-    }
 
 -- a place between its own sets, where these are given by equations
 pub becomes_own : (t : Table) (S Q M : ℕ) (kept : Kept) → (kept.from ≡ Q) × (kept.to ≡ M) × Becomes t S Q M kept
@@ -39,12 +24,12 @@ pub becomes_own : (t : Table) (S Q M : ℕ) (kept : Kept) → (kept.from ≡ Q) 
 becomes_own t S Q M kept (a, b, new) =
     record { letter = new.letter ∙ sym (ap₂ (between t S) a b); state = new.state ∙ sym (ap₂ (before t S) a b) }
 
--- a place between Q and M: looked at now, or between the same sets as the one before
-pub becomes_more : (t : Table) (S Q M : ℕ) (kept kept' : Kept) → Becomes t S kept.from kept.to kept
-    → ((kept'.from ≡ Q) × (kept'.to ≡ M) × Becomes t S Q M kept') ⊎ ((Q ≡ kept.from) × (M ≡ kept.to) × (kept' ≡ kept))
-    → Becomes t S kept'.from kept'.to kept' × Becomes t S Q M kept'
-becomes_more t S Q M kept kept' old =
-    ⊎_elim (λ new. (becomes_own t S Q M kept' new, new.2)) (λ (q, m, e). (rw e old, rw (q, m, e) old))
+-- a place between Q and M: looked at now, or between the same sets as the last one that was
+pub becomes_more : (t : Table) (S Q M : ℕ) (last : Option Kept) (kept : Kept) → IfSome last (λ k. Becomes t S k.from k.to k)
+    → (kept.from ≡ Q) × (kept.to ≡ M) × ((last ≡ Some kept) ⊎ Becomes t S Q M kept)
+    → Becomes t S kept.from kept.to kept × Becomes t S Q M kept
+becomes_more t S Q M last kept old (a, b, inl e) = let own : Becomes t S kept.from kept.to kept = rw e at old in (own, rw (← a, ← b) own)
+becomes_more t S Q M last kept old (a, b, inr new) = (becomes_own t S Q M kept (a, b, new), new)
 
 -- k places
 abbrev places : ℕ → ℕ → List Segment

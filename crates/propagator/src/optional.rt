@@ -1,5 +1,5 @@
 // Steps 3 and 4 of the passes: the optional part of a block. Level d is the set of states q with b(q) ≤ d.
-ghost use Rattle.std.specs.Prelude.{◌≡◌, ◌-◌};
+ghost use Rattle.std.specs.Prelude.{◌≡◌, ◌-◌, IfSome};
 ghost use Rattle.model.specs.Set.{both, either};
 ghost use Rattle.model.specs.DashedString.{block};
 ghost use Rattle.model.specs.Passes as passes;
@@ -12,12 +12,12 @@ use crate::moving::some_letter_to;
 use crate::places::{Kept, narrow_place};
 use model::Block;
 
-// What an optional part becomes, and the states kept before it; and what a place becomes that was looked at for it.
+// What an optional part becomes, and the states kept before it; and what a place becomes, where one was looked at for it.
 #[derive(Clone, Copy)]
 pub(crate) struct Optional {
     pub block: Block,
     pub states: u64,
-    pub kept: Kept,
+    pub kept: Option<Kept>,
 }
 
 // The next level, where `level` is one.
@@ -91,7 +91,7 @@ pub(crate) fn narrow_optional(
     requires within_value { (within ≡ at_most (table shape moves.now) base from width) × (both within end ≡ end) }
     ensures block_value { result.block ≡ pruned (table shape moves.now) from (optional base width) end }
     ensures states_value { result.states ≡ backward (table shape moves.now) from (optional base width) end }
-    ensures becomes { Becomes (table shape moves.now) base result.kept.from result.kept.to result.kept }
+    ensures becomes { IfSome result.kept (λ kept. Becomes (table shape moves.now) base kept.from kept.to kept) }
 {
     if width == 0 {
         return Optional {
@@ -101,12 +101,7 @@ pub(crate) fn narrow_optional(
                 upper: 0,
             },
             states: bitset::intersection(from, end),
-            kept: Kept {
-                from: 0,
-                to: 0,
-                letters: 0,
-                states: 0,
-            },
+            kept: None,
         };
     }
     let level = level_of(shape, moves, base, within, end, width - 1);
@@ -119,6 +114,6 @@ pub(crate) fn narrow_optional(
             upper: width,
         },
         states: bitset::intersection(from, bitset::union(level, kept.states)),
-        kept,
+        kept: Some(kept),
     }
 }

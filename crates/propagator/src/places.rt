@@ -1,5 +1,5 @@
 // Step 5 of the passes: the mandatory places of a block.
-ghost use Rattle.std.specs.Prelude.{◌≡◌, ◌+◌, ◌≤◌, length, replicate};
+ghost use Rattle.std.specs.Prelude.{◌≡◌, ◌+◌, ◌≤◌, length, replicate, IfSome};
 ghost use Rattle.model.specs.Passes.{mandatory};
 ghost use Rattle.records.specs.Written.{Enough};
 ghost use Rattle.propagator.specs.Moves.{Usable, Below, table};
@@ -65,7 +65,7 @@ pub(crate) fn narrow_places(
     at: usize,
     count: usize,
     end: u64,
-    last: Kept,
+    last: Option<Kept>,
     bases: &mut [u64],
     lowers: &mut [u16],
     uppers: &mut [u16],
@@ -73,20 +73,21 @@ pub(crate) fn narrow_places(
 ) -> u64
     requires usable { Usable shape moves.now × Below shape.letters base × (at + count ≤ length sets.now) }
     requires places { Places (table shape moves.now) base first count sets.now at }
-    requires becomes { Becomes (table shape moves.now) base last.from last.to last }
+    requires becomes { IfSome last (λ kept. Becomes (table shape moves.now) base kept.from kept.to kept) }
     requires enough { Enough bases.old lowers.old uppers.old (entry + count) }
     ensures value { result ≡ kept_to (table shape moves.now) end first (replicate count (mandatory base)) }
     ensures writes { Writes bases.old lowers.old uppers.old entry (entry + count)
         (entries_to (table shape moves.now) end first (replicate count (mandatory base)))
         bases.new lowers.new uppers.new }
 {
-    let mut kept = last;
+    let mut last = last;
     let mut states = end;
     for j in (0..count).rev() {
         let before = set_before(first, sets, at, j);
-        if before != kept.from || states != kept.to {
-            kept = narrow_place(shape, moves, base, before, states);
-        }
+        let kept = match last {
+            Some(kept) if kept.from == before && kept.to == states => kept,
+            _ => narrow_place(shape, moves, base, before, states),
+        };
         normal_form::store(
             bases,
             lowers,
@@ -99,6 +100,7 @@ pub(crate) fn narrow_places(
             },
         );
         states = kept.states;
+        last = Some(kept);
     }
     states
 }

@@ -1,13 +1,13 @@
 -- `propagator::optional::narrow_optional` meets its contract.
 use borrow.Author.Rules.{rules}
 use Rattle.propagator.proofs.Levels.{optional_none, optional_some}
-use Rattle.propagator.proofs.Placing.{becomes_none, becomes_own}
+use Rattle.propagator.proofs.Placing.{becomes_own}
 use Rattle.propagator.proofs.optional.narrow_optional.Goals as goal
 
 pub returns-then-width-eq0 : goal.returns-then-width-eq0
 returns-then-width-eq0 c =
     let (block, states) = optional_none _ _ _ _ _ _ c.if-width-eq0.true c.intersection.ensures in
-    record { block_value = block; states_value = states; becomes = becomes_none _ _ c.requires.usable.0.small }
+    record { block_value = block; states_value = states; becomes = tt }
 
 pub returns : goal.returns
 returns c =

@@ -9,11 +9,9 @@ loop-j-init c = record { last = c.requires.becomes; placing = placing_starts _ _
 
 pub loop-j-preserved : goal.loop-j-preserved
 loop-j-preserved c =
-    let (new, place) =
-    becomes_more _ _ c.set_before-before.result c.loop-j.states _ _ c.loop-j.invariant.last
-    (grind (arith, common_steps)) in
+    let (own, place) = becomes_more _ _ c.set_before-before.result c.loop-j.states _ _ c.loop-j.invariant.last (grind (arith, common_steps)) in
     record {
-      last = new;
+      last = own;
       placing = placing_more _ _ _ _ _ _ _ _ _ _ _ _ _ _ c.loop-j.invariant.placing _ _ _ _ _ _ _ _ (omega arith) (omega arith)
           (omega arith, omega arith, omega arith) c.requires.places c.set_before-before.ensures place
           c.store.ensures.bases_after c.store.ensures.lowers_after c.store.ensures.uppers_after;
