@@ -45,6 +45,15 @@ pub struct Block {
     pub upper: u16,
 }
 
+impl Block {
+    // The block that spells the empty code alone, of no letter.
+    pub const EMPTY: Block = Block {
+        base: 0,
+        lower: 0,
+        upper: 0,
+    };
+}
+
 // The check that failed first, by document 01's number.
 #[derive(Clone, Copy)]
 pub enum Refusal {
