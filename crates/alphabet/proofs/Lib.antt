@@ -1,2 +1,3 @@
 pub mod Values
 pub mod Undo
+pub mod Table

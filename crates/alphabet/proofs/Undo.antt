@@ -7,24 +7,23 @@ use native.Mathlib.Nat.{lt_of_not-le}
 use native.Mathlib.Omega.{arith}
 use borrow.Author.Tests.{ltb-true, le-ltb, lt-leb}
 use lib.Dec.{ltb}
-use Rattle.alphabet.specs.declared.Letter.{Letter}
-use Rattle.alphabet.specs.declared.Letter.TheVariants.{Number, None}
+use Rattle.std.specs.Prelude.{Option, Some, None}
 use Rattle.alphabet.specs.Alphabet.{sign_of, letter_of}
 use Rattle.alphabet.proofs.Values.{values, agree}
 
 -- the letter of a letter's sign is the letter
-pub letter_of_sign : (c : ℕ) → c < 64 → letter_of (sign_of c) ≡ Number c
+pub letter_of_sign : (c : ℕ) → c < 64 → letter_of (sign_of c) ≡ Some c
 unfolding values sign_of letter_of
-letter_of_sign = agree 64 (λ c. letter_of (sign_of c)) Number refl
+letter_of_sign = agree 64 (λ c. letter_of (sign_of c)) Some refl
 
 -- the sign of a letter, or b where there is none
-sign_or : ℕ → Letter → ℕ
-sign_or b (Number c) = sign_of c
+sign_or : ℕ → Option ℕ → ℕ
+sign_or b (Some c) = sign_of c
 sign_or b None = b
 
 -- the letter, or 0 where there is none
-letter_or_0 : Letter → ℕ
-letter_or_0 (Number c) = c
+letter_or_0 : Option ℕ → ℕ
+letter_or_0 (Some c) = c
 letter_or_0 None = 0
 
 -- a number past `z` has no letter
@@ -34,7 +33,7 @@ letter_past b h =
     rw (lt-leb b 43 (omega arith), lt-leb b 45 (omega arith), lt-leb b 57 (omega arith), lt-leb b 90 (omega arith), lt-leb b 122 h)
 
 -- what has a letter is the letter's sign
-pub sign_of_letter : (b c : ℕ) → letter_of b ≡ Number c → (c < 64) × (sign_of c ≡ b)
+pub sign_of_letter : (b c : ℕ) → letter_of b ≡ Some c → (c < 64) × (sign_of c ≡ b)
 unfolding values sign_of letter_of sign_or letter_or_0
 sign_of_letter b c e = (
   ltb-true c 64 (rw e at (agree 123 (λ b. ltb (letter_or_0 (letter_of b)) 64) (λ b. true) refl b small)),
@@ -48,8 +47,8 @@ sign_of_letter b c e = (
 pub no_letter : (b : ℕ) → ((c : ℕ) → c < 64 → ¬ (sign_of c ≡ b)) → letter_of b ≡ None
 no_letter b none = go (letter_of b) refl
   where
-    go : (x : Letter) → letter_of b ≡ x → x ≡ None
-    go (Number c) e = let (l, s) = sign_of_letter b c e in absurd (none c l s)
+    go : (x : Option ℕ) → letter_of b ≡ x → x ≡ None
+    go (Some c) e = let (l, s) = sign_of_letter b c e in absurd (none c l s)
     go None e = refl
 
 -- what is no letter has the sign 0
