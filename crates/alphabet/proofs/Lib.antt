@@ -1,2 +1,3 @@
-pub mod Values
+-- Lemmas on the definitions.
 pub mod Undo
+pub mod Table

@@ -1,7 +1,5 @@
 -- Letters and their printed signs (01, "Letters, codes, blocks"). A sign is its byte: `+` is 43, `-` 45, `0` 48, `A` 65, `a` 97.
-use Rattle.std.specs.Prelude.{ℕ, ◌+◌, ◌-◌, Bool, cond, ◌&&◌, leb, ltb}
-use Rattle.alphabet.specs.declared.Letter.{Letter}
-use Rattle.alphabet.specs.declared.Letter.TheVariants.{Number, None}
+use Rattle.std.specs.Prelude.{ℕ, ◌+◌, ◌-◌, Bool, cond, ◌&&◌, leb, ltb, Option, Some, None}
 
 -- x is from a to e
 abbrev pub within : ℕ → ℕ → ℕ → Bool
@@ -17,10 +15,10 @@ sign_of c =
     (cond (ltb c 64) (97 + (c - 38)) 0))))
 
 -- the letter that a byte is the sign of, by the byte's range, or none
-unfoldable pub letter_of : ℕ → Letter
+unfoldable pub letter_of : ℕ → Option ℕ
 letter_of b =
-    cond (within 43 43 b) (Number 0)
-    (cond (within 45 45 b) (Number 1)
-    (cond (within 48 57 b) (Number (2 + (b - 48)))
-    (cond (within 65 90 b) (Number (12 + (b - 65)))
-    (cond (within 97 122 b) (Number (38 + (b - 97))) None))))
+    cond (within 43 43 b) (Some 0)
+    (cond (within 45 45 b) (Some 1)
+    (cond (within 48 57 b) (Some (2 + (b - 48)))
+    (cond (within 65 90 b) (Some (12 + (b - 65)))
+    (cond (within 97 122 b) (Some (38 + (b - 97))) None))))

@@ -17,7 +17,7 @@ use Rattle.std.proofs.lemmas.List.FromFn.{length-range_with_len, get_or-range_wi
 use Rattle.std.proofs.lemmas.List.Kept.{IsStrictlyIncreasing-filter}
 use Rattle.std.proofs.lemmas.List.Sums.{fold-append}
 use Rattle.model.specs.Set.{has, Member, either, some_below, union_below, some_member, members, union_of}
-use Rattle.model.proofs.Set.{member, in_one, one_in}
+use Rattle.model.proofs.Set.{member, in_one, one_in, in_either}
 use Rattle.bitset.specs.Difference.{difference}
 use Rattle.bitset.specs.First.{First}
 use Rattle.bitset.specs.Listed.{listed}
@@ -38,7 +38,7 @@ in_cons y ys x = (λ (k, l, e). go k l e, ⊎_elim (λ e. (0, omega arith, e)) (
     go (suc k) l e = inr (k, omega arith, e)
 
 -- what is in the list of those that pass
-in_filter : (p : ℕ → Bool) (x : ℕ) (xs : List ℕ) → Contains (filter p xs) x ↔ (Contains xs x × T (p x))
+pub in_filter : (p : ℕ → Bool) (x : ℕ) (xs : List ℕ) → Contains (filter p xs) x ↔ (Contains xs x × T (p x))
 in_filter p x [] = (λ (k, l, e). absurd (omega arith), λ ((k, l, e), h). absurd (omega arith))
 in_filter p x (y ∷ ys) = go (p y) refl (in_filter p x ys)
   where
@@ -190,10 +190,30 @@ union_fold p f (suc n) =
     go true = refl
     go false = refl
 
--- the union of f i, over the members
-pub union_listed : (s : ℕ) (f : ℕ → ℕ) → fold (λ a i. either a (f i)) 0 (listed s) ≡ union_of s f
+-- a, and the union of f i over the members
+abbrev pub joined : (ℕ → ℕ) → ℕ → ℕ → ℕ
+joined f a s = fold (λ b i. either b (f i)) a (listed s)
+
+-- where a is empty, the union alone
+pub union_listed : (s : ℕ) (f : ℕ → ℕ) → joined f 0 s ≡ union_of s f
 unfolding listed
 union_listed s f = union_fold (has s) f 64
+
+-- where no member is left, a alone
+pub joined_none : (s : ℕ) → listed s ≡ [] → (f : ℕ → ℕ) (a : ℕ) → joined f a s ≡ a
+joined_none s e f a = ap (fold (λ b i. either b (f i)) a) e
+
+-- the first member x, and then the others
+pub joined_next : (s t x : ℕ) → listed s ≡ x ∷ listed t → (f : ℕ → ℕ) (a : ℕ) → joined f a s ≡ joined f (either a (f x)) t
+joined_next s t x e f a = ap (fold (λ b i. either b (f i)) a) e
+
+-- what is in a stays
+pub joined_keeps : (s : ℕ) (f : ℕ → ℕ) (a j : ℕ) → Member j a → Member j (joined f a s)
+joined_keeps s f a j = go (listed s) a
+  where
+    go : (xs : List ℕ) (a : ℕ) → Member j a → Member j (fold (λ b i. either b (f i)) a xs)
+    go [] a m = m
+    go (x ∷ xs) a m = go xs (either a (f x)) ((in_either a (f x)).1 (inl m))
 
 -- the members that pass the test
 pub members_listed : (s : ℕ) (p : ℕ → Bool) → fold (λ a i. either a (2 ^ i)) 0 (filter p (listed s)) ≡ members s p

@@ -1,75 +1,52 @@
 // Bytes from hex text: tokens with blanks between, each two hex digits, or `*N` behind a byte that stands N times in all.
-ghost use Rattle.std.specs.Prelude.{◌≤◌, length};
-ghost use Rattle.case_text.specs.Filled.{Within};
+ghost use Rattle.std.specs.Prelude.{◌≤◌, length, IfSome};
 
 use crate::text;
 
-// How many bytes of a buffer hold what was read, or that it cannot be read.
-#[derive(Clone, Copy)]
-pub enum Filled {
-    Count(usize),
-    Unreadable,
-}
-
-// Puts the bytes that the text says at the start of `bytes`.
-pub fn read_bytes(tokens: &[u8], bytes: &mut [u8]) -> Filled
-    ensures { Within (length bytes.new) result }
+// The bytes that the text says, put at the start of the room; none for text that cannot be read, or that says more than fit.
+pub fn read_bytes<'a>(tokens: &[u8], room: &'a mut [u8]) -> Option<&'a [u8]>
+    ensures { IfSome result (λ bytes. length bytes.now ≤ length room.old) }
 {
     let mut count = 0;
     for token in tokens.split(|byte| *byte == b' ') {
-        let Filled::Count(more) = read_token(token, bytes, count) else {
-            return Filled::Unreadable;
-        };
-        count = more;
+        count = read_token(token, room, count)?;
     }
-    Filled::Count(count)
+    Some(&room[..count])
 }
 
-// Puts what one token says behind the first `count` bytes; an empty one, between two blanks, says nothing.
-fn read_token(token: &[u8], bytes: &mut [u8], count: usize) -> Filled
-    requires { count ≤ length bytes.old }
-    ensures { Within (length bytes.new) result }
+// Puts what one token says behind the first `count` bytes, and returns how many there are then; an empty one, between two
+// blanks, says nothing.
+fn read_token(token: &[u8], room: &mut [u8], count: usize) -> Option<usize>
+    requires { count ≤ length room.old }
+    ensures { IfSome result (λ more. more ≤ length room.old) }
 {
-    if token.len() == 0 {
-        return Filled::Count(count);
+    match token {
+        [] => Some(count),
+        [b'*', digits @ ..] => repeat_last(digits, room, count),
+        [high, low] => {
+            *room.get_mut(count)? = byte(*high, *low)?;
+            Some(count + 1)
+        }
+        _ => None,
     }
-    if token[0] == b'*' {
-        return repeat_last(&token[1..], bytes, count);
-    }
-    if token.len() != 2 {
-        return Filled::Unreadable;
-    }
-    let high = text::hex_digit(token[0]);
-    let low = text::hex_digit(token[1]);
-    if 15 < high || 15 < low {
-        return Filled::Unreadable;
-    }
-    if bytes.len() <= count {
-        return Filled::Unreadable;
-    }
-    bytes[count] = high * 16 + low;
-    Filled::Count(count + 1)
 }
 
-// Repeats the last of the first `count` bytes, so that it stands as often in all as the digits say.
-fn repeat_last(digits: &[u8], bytes: &mut [u8], count: usize) -> Filled
-    requires { count ≤ length bytes.old }
-    ensures { Within (length bytes.new) result }
+// Repeats the last of the first `count` bytes, so that it stands as often in all as the digits say, and returns how many
+// there are then.
+fn repeat_last(digits: &[u8], room: &mut [u8], count: usize) -> Option<usize>
+    requires { count ≤ length room.old }
+    ensures { IfSome result (λ more. more ≤ length room.old) }
 {
-    let times = text::number(digits);
-    if times == 0 {
-        return Filled::Unreadable;
-    }
-    if count == 0 {
-        return Filled::Unreadable;
-    }
-    let end = count - 1 + times;
-    if bytes.len() < end {
-        return Filled::Unreadable;
-    }
-    let last = bytes[count - 1];
-    for i in count..end {
-        bytes[i] = last;
-    }
-    Filled::Count(end)
+    let last = *room[..count].last()?;
+    let more = text::number(digits)?.checked_sub(1)?;
+    let end = count + more as usize;
+    room.get_mut(count..end)?.fill(last);
+    Some(end)
+}
+
+// The byte that two hex digits say, of either case.
+fn byte(high: u8, low: u8) -> Option<u8> {
+    let high = (high as char).to_digit(16)?;
+    let low = (low as char).to_digit(16)?;
+    Some((high * 16 + low) as u8)
 }

@@ -3,17 +3,16 @@ ghost use Rattle.std.specs.Prelude.{◌≤◌, length};
 
 use std::io::Read;
 
-// Reads into `bytes` until they are full, or to the end of the input or a read that fails, and returns how many were read.
-pub fn read_full(reader: &mut impl Read, bytes: &mut [u8]) -> usize
-    ensures { result ≤ length bytes.new }
+// Reads until the room is full, or to the end of the input or a read that fails, and returns what was read.
+pub fn read_full<'a>(reader: &mut impl Read, room: &'a mut [u8]) -> &'a [u8]
+    ensures { length result.now ≤ length room.old }
 {
     let mut size = 0;
-    while size < bytes.len() {
-        match reader.read(&mut bytes[size..]) {
-            Ok(0) => return size,
+    while size < room.len() {
+        match reader.read(&mut room[size..]) {
+            Ok(0) | Err(_) => break,
             Ok(more) => size += more,
-            Err(_) => return size,
         }
     }
-    size
+    &room[..size]
 }

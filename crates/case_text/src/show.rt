@@ -5,32 +5,11 @@ ghost use Rattle.std.specs.Io.KnownBytes.{Appends};
 use std::io;
 use std::io::Write;
 
-// Writes text as it stands.
-pub fn text<W: Write>(out: &mut W, bytes: &[u8]) -> io::Result<()>
-    ensures { OnOk result (Appends (W.contents out.old) (W.contents out.new) bytes.now) }
-{
-    out.write_all(bytes)
-}
-
-// Writes a number in decimal.
-pub fn number<W: Write>(out: &mut W, n: u64) -> io::Result<()>
-    ensures { OnOk result (Appends (W.contents out.old) (W.contents out.new) (decimal n)) }
-{
-    write!(out, "{n}")
-}
-
-// Writes a blank and a number.
-pub fn next_number<W: Write>(out: &mut W, n: u64) -> io::Result<()>
-    ensures { OnOk result (Appends (W.contents out.old) (W.contents out.new) (codes " " ++ decimal n)) }
-{
-    write!(out, " {n}")
-}
-
 // Writes the blank between entry `i` and the one before it.
 pub fn blank_before<W: Write>(out: &mut W, i: usize) -> io::Result<()>
     ensures { OnOk result (Appends (W.contents out.old) (W.contents out.new) (if nat_lt 0 i then codes " " else [])) }
 {
-    if 0 < i { text(out, b" ") } else { Ok(()) }
+    if 0 < i { out.write_all(b" ") } else { Ok(()) }
 }
 
 // Writes a refusal.
@@ -44,5 +23,5 @@ pub fn refused<W: Write>(out: &mut W, n: u32) -> io::Result<()>
 pub fn unreadable<W: Write>(out: &mut W) -> io::Result<()>
     ensures { OnOk result (Appends (W.contents out.old) (W.contents out.new) (codes "unreadable")) }
 {
-    text(out, b"unreadable")
+    out.write_all(b"unreadable")
 }

@@ -1,45 +1,36 @@
 // Reading the text of a case.
-ghost use Rattle.std.specs.Prelude.{ℕ, ◌≡◌, ◌≢◌, ◌≤◌, ◌<◌, length, slice_index};
+ghost use Rattle.std.specs.Prelude.{ℕ, ◌≡◌, ◌<◌, Some, ◌↔◌, IsTrue, IfSome, All, decimal};
+ghost use Rattle.std.specs.Char.{IsAsciiDigit};
+ghost use Rattle.case_text.specs.Split.{SplitAt};
 
-// The place of the first such byte from `from` on, or the length where there is none.
-pub fn find(text: &[u8], from: usize, byte: u8) -> usize
-    requires { from ≤ length text.now }
-    ensures within { (from ≤ result) × (result ≤ length text.now) }
-    ensures before { (k : ℕ) → from ≤ k → k < result → slice_index text.now k ≢ byte }
-    ensures found { result < length text.now → slice_index text.now result ≡ byte }
+use std::str;
+
+// The text before the first such byte and the text behind it; all of it and none where there is no such byte.
+pub fn split_at(text: &[u8], byte: u8) -> (&[u8], &[u8])
+    ensures { SplitAt byte text.now result.0.now result.1.now }
 {
-    for at in from..text.len() {
-        if text[at] == byte {
-            return at;
-        }
-    }
-    text.len()
-}
-
-// The value of a hex digit, of either case; 16 for a byte that is none.
-pub fn hex_digit(byte: u8) -> u8 {
-    match byte {
-        b'0'..=b'9' => byte - b'0',
-        b'A'..=b'F' => byte - b'A' + 10,
-        b'a'..=b'f' => byte - b'a' + 10,
-        _ => 16,
+    match text.iter().position(|other| *other == byte) {
+        Some(at) => (&text[..at], &text[at + 1..]),
+        None => (text, &[]),
     }
 }
 
-// The number that decimal digits say; 0 for text that is no number below 100,000.
-pub fn number(digits: &[u8]) -> usize
-    ensures { result < 100000 }
+// The number that decimal digits say; none for text that is no number below 100,000.
+#[tactic(auto, using(crate::proofs::Decimal::digits_of_decimal, crate::proofs::Decimal::text_of_decimal, crate::proofs::Decimal::parse_of_decimal))]
+pub fn number(digits: &[u8]) -> Option<u32>
+    ensures below { IfSome result (λ n. n < 100000) }
+    ensures shown { (n : ℕ) → n < 100000 → digits.now ≡ decimal n → result ≡ Some n }
 {
-    let mut n = 0;
-    for byte in digits {
-        let digit = hex_digit(*byte);
-        if 9 < digit {
-            return 0;
-        }
-        n = n * 10 + digit as usize;
-        if 99999 < n {
-            return 0;
-        }
+    if !are_digits(digits) {
+        return None;
     }
-    n
+    let n = str::from_utf8(digits).ok()?.parse::<u32>().ok()?;
+    if n < 100000 { Some(n) } else { None }
+}
+
+// Whether each byte is a decimal digit.
+fn are_digits(text: &[u8]) -> bool
+    ensures { IsTrue result ↔ All IsAsciiDigit text.now }
+{
+    text.iter().all(u8::is_ascii_digit)
 }

@@ -7,59 +7,41 @@ use mathlib.Core.Bool.{Bool, true, false}
 use native.Mathlib.Numerals.{add-one}
 use native.Mathlib.Omega.{arith}
 use lib.Bits.{and_lt, or_lt}
-use Rattle.model.specs.Set.{has, Member, both, either, some_member}
+use Rattle.model.specs.Set.{has, Member, both, either, some_member, members}
 use Rattle.model.specs.DashedString.{block}
 use Rattle.model.specs.Automaton.{Table}
 use Rattle.model.specs.Passes.{before, between, rounds, at_most, to_end, first, fewest, optional, pruned, backward}
-use Rattle.model.proofs.Set.{in_both, in_either}
+use Rattle.model.proofs.Set.{in_both, in_either, in_members, members_bytes}
 use Rattle.model.proofs.Steps.{rounds_stay, in_before}
 use Rattle.bitset.specs.Difference.{difference}
 use Rattle.bitset.proofs.Laws.{same_members, shared_test, in_difference}
 use Rattle.propagator.specs.Moves.{leads}
 use Rattle.propagator.proofs.Gathering.{inside_or_not}
-use Rattle.propagator.proofs.Keeping.{before_bytes, Keeping, leads_exact, keeping_more, keeping_ends}
+use Rattle.propagator.proofs.Letters.{before_bytes, leads_exact}
 
 -- ---- the next level
 
-module _ (t : Table) (fits : t.states < 64) (S R level : ℕ) where
-  -- the states of the level are found without looking
-  pub raising_starts : (rest : ℕ) → level < 2 ^ 64 → rest ≡ difference R level
-      → Keeping t S level (either level (before t S R level)) level rest
-  raising_starts rest bytes e =
-      record {
-        bytes = bytes;
-        exact = rw e (λ q. (
-          λ h. ⊎_elim inl new ((in_either level (before t S R level)).0 h),
-          λ h. (in_either level (before t S R level)).1 (⊎_elim inl (λ a. inr (old a)) h),
-        ));
-      }
-    where
-      old : {q : ℕ} → Member q (before t S (difference R level) level) → Member q (before t S R level)
-      old a =
-          let (n, c, k, l) = (in_before t fits S (difference R level) level).0 a in
-          (in_before t fits S R level).1 (((in_difference R level).0 n).0, c, k, l)
+-- the level, and the states not yet in it from which a letter leads there
+pub level_raised : (t : Table) → t.states < 64 → (S R level others more : ℕ) → level < 2 ^ 64 → others ≡ difference R level
+    → more ≡ members others (leads t S level) → either level more ≡ either level (before t S R level)
+level_raised t fits S R level others more bytes e d =
+    same_members (either level more) (either level (before t S R level)) (or_lt 64 level more bytes (rw d (members_bytes others (leads t S level))))
+    (or_lt 64 level (before t S R level) bytes (before_bytes t S R level)) (λ q. (
+      λ m. (in_either level (before t S R level)).1 (⊎_elim inl (λ n. inr (old n)) ((in_either level more).0 m)),
+      λ m. (in_either level more).1 (⊎_elim inl new ((in_either level (before t S R level)).0 m)),
+    ))
+  where
+    old : {q : ℕ} → Member q more → Member q (before t S R level)
+    old {q} m =
+        let (n, l) = (in_members others (leads t S level)).0 (rw d at m) in
+        let (c, k, g) = (leads_exact t fits S level q).0 l in
+        (in_before t fits S R level).1 (((in_difference R level).0 (rw e at n)).0, c, k, g)
 
-      new : {q : ℕ} → Member q (before t S R level) → Member q level ⊎ Member q (before t S (difference R level) level)
-      new a =
-          let (n, c, k, l) = (in_before t fits S R level).0 a in
-          ⊎_elim inl (λ o. inr ((in_before t fits S (difference R level) level).1 ((in_difference R level).1 (n, o), c, k, l)))
-          (inside_or_not level n.small)
-
-  -- one state more is looked at
-  pub raising_more : (X found rest i found' rest' : ℕ) (r : Bool) → Keeping t S level X found rest → Member i rest
-      → rest' ≡ difference rest (2 ^ i) → r ≡ leads t S level i
-      → ((r ≡ true) × (found' ≡ either found (2 ^ i))) ⊎ ((r ≡ false) × (found' ≡ found)) → Keeping t S level X found' rest'
-  raising_more X found rest i found' rest' r keeping m less e kept =
-      keeping_more t fits S level X found rest i found' rest' keeping m less (⊎_elim
-      (λ (v, f). inl ((leads_exact t fits S level i).0 (rw (← e, v) tt), f))
-      (λ (v, f). inr (λ l. rw (← e, v) at ((leads_exact t fits S level i).1 l), f)) kept)
-
-  -- all are looked at
-  pub raising_ends : (found rest : ℕ) → level < 2 ^ 64 → Keeping t S level (either level (before t S R level)) found rest → rest ≡ 0
-      → found ≡ either level (before t S R level)
-  raising_ends found rest bytes keeping e =
-      keeping_ends t fits S level (either level (before t S R level)) found rest keeping e
-      (or_lt 64 level (before t S R level) bytes (before_bytes t S R level))
+    new : {q : ℕ} → Member q (before t S R level) → Member q level ⊎ Member q more
+    new {q} m =
+        let (n, c, k, g) = (in_before t fits S R level).0 m in
+        ⊎_elim inl (λ o. inr (rw d ((in_members others (leads t S level)).1 (rw e ((in_difference R level).1 (n, o)), (leads_exact t fits S level q).1 (c, k, g)))))
+        (inside_or_not level n.small)
 
 -- ---- level by level
 

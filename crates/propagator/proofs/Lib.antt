@@ -1,12 +1,10 @@
 -- Laws of the passes, and what the loops keep; the proofs of functions stand in folders of their names.
 pub mod Gathering
 pub mod Letters
-pub mod Collecting
 pub mod Targets
 pub mod Remembered
 pub mod Filling
 pub mod Rounds
-pub mod Keeping
 pub mod Narrowing
 pub mod Levels
 pub mod Placing

@@ -2,25 +2,25 @@
 -- Assumes nothing.
 use Prim.Native.Nat.{ℕ, ◌+◌, ◌^◌, ◌≤◌, ◌<◌}
 use mathlib.Core.Path.{◌≡◌, refl, sym, ◌∙◌}
-use mathlib.Core.Logic.{inl, ⊎_elim}
+use mathlib.Core.Logic.{⊎_elim}
 use mathlib.Core.Bool.{Bool, true, false}
-use mathlib.Core.List.{List}
+use mathlib.Core.List.{List, [], ◌∷◌}
 use native.Mathlib.Omega.{arith}
 use borrow.Author.Tests.{eqb-true, eqb-false}
 use lib.Dec.{eqb}
 use lib.ListN.{length, get_or, set, length-set}
 use lib.Seq.{get_or-set_same, get_or-set_other}
-use Rattle.model.specs.Set.{Member, has, either}
+use Rattle.model.specs.Set.{Member, has, either, union_of}
 use Rattle.model.specs.Automaton.{Table, next}
 use Rattle.model.specs.Passes.{reach, after}
-use Rattle.model.proofs.Set.{member, in_none, in_union}
+use Rattle.model.proofs.Set.{member, in_none, in_union, union_bytes}
 use Rattle.model.proofs.Steps.{in_after}
-use Rattle.bitset.specs.Difference.{difference}
+use Rattle.bitset.specs.Listed.{listed}
+use Rattle.bitset.proofs.Listed.{joined, union_listed, joined_none, joined_next, joined_keeps}
 use Rattle.bitset.proofs.Laws.{same_members, in_add}
 use Rattle.propagator.specs.Moves.{Below}
 use Rattle.propagator.specs.Known.{image, Targets, limit, Known}
-use Rattle.propagator.proofs.Collecting.{Collecting, collecting_ends, Gives, union_more, union_ends}
-use Rattle.propagator.proofs.Letters.{reach_bytes, image_bytes, after_bytes}
+use Rattle.propagator.proofs.Letters.{image_bytes, after_bytes}
 use Rattle.propagator.proofs.Targets.{in_limit}
 
 -- ---- what two writes leave
@@ -142,33 +142,32 @@ module _ (t : Table) (S : ℕ) (known : List ℕ) (k : Known t S known) (c : ℕ
 
 -- ---- the states after one letter from the states of a set
 
--- what the loop over the states keeps
+-- what the loop over the states keeps: what is found, with what the states of rest reach, is what all of Q reach
 pub record Stepping (t : Table) (S Q : ℕ) (old known : List ℕ) (rest found : ℕ) : Type 0 where
   pub size : length known ≡ length old
   pub right : Known t S known
-  pub collecting : Collecting (Gives (reach t S)) Q rest found
+  pub more : joined (reach t S) found rest ≡ after t S Q
+
+-- nothing is found yet
+pub stepping_starts : (t : Table) (S Q r : ℕ) (known : List ℕ) → Known t S known → r ≡ Q → Stepping t S Q known known r 0
+unfolding after
+stepping_starts t S Q r known k e = record { size = refl; right = k; more = rw e (union_listed Q (reach t S)) }
 
 module _ (t : Table) (fits : t.states < 64) (S Q : ℕ) (old known : List ℕ) (rest found : ℕ) (stepping : Stepping t S Q old known rest found) where
   -- one state more
-  pub stepping_more : (known' : List ℕ) (q r found' rest' : ℕ) → length known' ≡ length known → Known t S known' → Member q rest → r ≡ reach t S q
-      → found' ≡ either found r → rest' ≡ difference rest (2 ^ q) → Stepping t S Q old known' rest' found'
-  stepping_more known' q r found' rest' s k m e d l =
-      record {
-        size = s ∙ stepping.size;
-        right = k;
-        collecting = union_more (reach t S) Q rest found stepping.collecting q r found' rest' m e (rw e (reach_bytes t fits S q)) d l;
-      }
+  pub stepping_more : (known' : List ℕ) (q r found' rest' : ℕ) → length known' ≡ length known → Known t S known' → listed rest ≡ q ∷ listed rest'
+      → r ≡ reach t S q → found' ≡ either found r → Stepping t S Q old known' rest' found'
+  stepping_more known' q r found' rest' s k l e d =
+      record { size = s ∙ stepping.size; right = k; more = rw (d, e) (sym (joined_next rest rest' q l (reach t S) found) ∙ stepping.more) }
 
   -- no state is left
-  pub stepping_ends : rest ≡ 0 → found ≡ after t S Q
-  unfolding after
-  stepping_ends e = union_ends (reach t S) Q rest found stepping.collecting e (after_bytes t fits S Q)
+  pub stepping_ends : listed rest ≡ [] → found ≡ after t S Q
+  stepping_ends e = sym (joined_none rest e (reach t S) found) ∙ stepping.more
 
   -- all states that a letter can lead to are found
-  pub stepping_full : (B : ℕ) → Targets t B → Below t.letters S → found ≡ limit t.states B Q → found ≡ after t S Q
-  unfolding after
-  stepping_full B targets below e = same_members found (after t S Q) stepping.collecting.bytes (after_bytes t fits S Q) (λ x. (
-    λ m. (in_union Q (reach t S) {i = x}).1 ((stepping.collecting.same x).1 (inl m)),
+  pub stepping_full : (B : ℕ) → found < 2 ^ 64 → Targets t B → Below t.letters S → found ≡ limit t.states B Q → found ≡ after t S Q
+  stepping_full B bytes targets below e = same_members found (after t S Q) bytes (after_bytes t fits S Q) (λ x. (
+    λ m. rw stepping.more at (joined_keeps rest (reach t S) found x m),
     λ m. let (q, n, c, l, o) = (in_after t fits S Q).0 m in rw e (rw o at (in_limit t fits B Q targets q c n (below c l))),
   ))
 
@@ -179,32 +178,39 @@ pub record Imaging (t : Table) (S Q : ℕ) (old known : List ℕ) (rest found : 
   pub size : length known ≡ length old
   pub right : Known t S known
   pub same : get_or known 131 0 ≡ Q
-  pub collecting : Collecting (Gives (image t Q)) S rest found
+  pub more : joined (image t Q) found rest ≡ union_of S (image t Q)
+
+-- nothing is found yet
+pub imaging_starts : (t : Table) (S r : ℕ) (known : List ℕ) → Known t S known → r ≡ S → Imaging t S (get_or known 131 0) known known r 0
+imaging_starts t S r known k e = record { size = refl; right = k; same = refl; more = rw e (union_listed S (image t (get_or known 131 0))) }
+
+-- the states after one letter, taken letter by letter
+images_are : (t : Table) → t.states < 64 → (S Q : ℕ) → union_of S (image t Q) ≡ after t S Q
+unfolding after reach image
+images_are t fits S Q =
+    same_members (union_of S (image t Q)) (after t S Q) (union_bytes S (image t Q) (image_bytes t fits Q)) (after_bytes t fits S Q) (λ x. (
+      λ m.
+          let (c, l, o) = (in_union S (image t Q) {i = x}).0 m in
+          let (q, n, p) = (in_union Q (λ q. 2 ^ next t q c) {i = x}).0 o in
+          (in_union Q (reach t S) {i = x}).1 (q, n, (in_union S (λ c. 2 ^ next t q c) {i = x}).1 (c, l, p)),
+      λ m.
+          let (q, n, o) = (in_union Q (reach t S) {i = x}).0 m in
+          let (c, l, p) = (in_union S (λ c. 2 ^ next t q c) {i = x}).0 o in
+          (in_union S (image t Q) {i = x}).1 (c, l, (in_union Q (λ q. 2 ^ next t q c) {i = x}).1 (q, n, p)),
+    ))
 
 module _ (t : Table) (fits : t.states < 64) (S Q : ℕ) (old known : List ℕ) (rest found : ℕ) (imaging : Imaging t S Q old known rest found) where
   -- one letter more
   pub imaging_more : (known' : List ℕ) (c r found' rest' : ℕ) → length known' ≡ length known → Known t S known' → get_or known' 131 0 ≡ get_or known 131 0
-      → Member c rest → r ≡ image t (get_or known 131 0) c → found' ≡ either found r → rest' ≡ difference rest (2 ^ c)
-      → Imaging t S Q old known' rest' found'
-  imaging_more known' c r found' rest' s k o m e d l =
-      let given : r ≡ image t Q c = rw (← imaging.same) e in
+      → listed rest ≡ c ∷ listed rest' → r ≡ image t (get_or known 131 0) c → found' ≡ either found r → Imaging t S Q old known' rest' found'
+  imaging_more known' c r found' rest' s k o l e d =
       record {
         size = s ∙ imaging.size;
         right = k;
         same = o ∙ imaging.same;
-        collecting = union_more (image t Q) S rest found imaging.collecting c r found' rest' m given (rw given (image_bytes t fits Q c)) d l;
+        more = rw (d, e, imaging.same) (sym (joined_next rest rest' c l (image t Q) found) ∙ imaging.more);
       }
 
   -- no letter is left
-  pub imaging_ends : rest ≡ 0 → found ≡ after t S Q
-  unfolding after reach image
-  imaging_ends e =
-      collecting_ends (Gives (image t Q)) S rest found imaging.collecting (after t S Q) e (after_bytes t fits S Q) (λ x. (
-        λ m.
-            let (q, n, o) = (in_union Q (reach t S) {i = x}).0 m in
-            let (c, l, p) = (in_union S (λ c. 2 ^ next t q c) {i = x}).0 o in
-            (c, l, (in_union Q (λ q. 2 ^ next t q c) {i = x}).1 (q, n, p)),
-        λ (c, l, o).
-            let (q, n, p) = (in_union Q (λ q. 2 ^ next t q c) {i = x}).0 o in
-            (in_union Q (reach t S) {i = x}).1 (q, n, (in_union S (λ c. 2 ^ next t q c) {i = x}).1 (c, l, p)),
-      ))
+  pub imaging_ends : listed rest ≡ [] → found ≡ after t S Q
+  imaging_ends e = sym (joined_none rest e (image t Q) found) ∙ imaging.more ∙ images_are t fits S Q

@@ -9,7 +9,7 @@ use lib.ListN.{length, get_or, take, drop, set, replicate, drop_of_length-le}
 use Rattle.model.specs.declared.Block.{Block}
 use Rattle.model.specs.DashedString.{block_at}
 use Rattle.model.specs.Set.{both}
-use Rattle.model.specs.Size.{lower_sum}
+use Rattle.model.specs.Size.{WellFormed, Room, lower_sum}
 use Rattle.model.specs.Automaton.{Table}
 use Rattle.model.specs.Passes.{mandatory, optional, segments_of, segments, at_most, backward, pruned, final}
 use Rattle.model.proofs.Set.{in_both}
@@ -19,7 +19,7 @@ use Rattle.bitset.proofs.Laws.{same_members}
 use Rattle.propagator.specs.Moves.{exactly}
 use Rattle.propagator.specs.Rows.{kept_to, entries_to, entering, Inside, Places, set_before, Stored, Writes}
 use Rattle.propagator.proofs.Rows.{sum_next, sum_mono, sum_all, block_final, entering_first, entering_next, set_before_is, kept_inside, block_kept, block_entries, kept_next, entries_next}
-use Rattle.propagator.proofs.Slices.{entry_is, between_first, between_none, between_append, between_same, writes_behind}
+use Rattle.propagator.proofs.Slices.{entry_is, entry_formed, between_first, between_none, between_append, between_same, writes_behind}
 
 -- a set within another is what is in both
 pub inside_both : (a b : ℕ) → a < 2 ^ 64 → b < 2 ^ 64 → Inside b a → both a b ≡ b
@@ -65,6 +65,15 @@ pub record Returning (t : Table) (Q E : ℕ) (a b c : List ℕ) (n total : ℕ) 
   pub states : kept ≡ kept_to t E (entering t Q (blocks_of a b c n) i) (segments (drop i (blocks_of a b c n)))
   pub made : blocks_between a' b' c' (at + i) (total + n) ≡ entries_to t E (entering t Q (blocks_of a b c n) i) (segments (drop i (blocks_of a b c n)))
 
+-- the block x that is taken next, as number k: its sets and entries begin where those of the blocks before end
+pub record Taken (t : Table) (m n total : ℕ) (sets : List ℕ) (within at k first : ℕ) (x : Block) : Type 0 where
+  pub formed : WellFormed m x
+  pub begins : x.lower ≤ at
+  pub below : at ≤ total
+  pub ends : at - x.lower + k + x.lower + 1 ≤ total + n
+  pub places : Places t x.base first x.lower sets (at - x.lower)
+  pub reached : within ≡ final t first (segments_of x)
+
 module _ (t : Table) (Q E : ℕ) (a b c : List ℕ) (n total : ℕ) (all : total ≡ lower_sum (blocks_of a b c n)) where
   abbrev xs : List Block
   xs = blocks_of a b c n
@@ -101,21 +110,18 @@ module _ (t : Table) (Q E : ℕ) (a b c : List ℕ) (n total : ℕ) (all : total
       there = omega (arith, size)
 
       -- it is what it was
-      pub returning_read : x ≡ numbered a b c k
-      returning_read = read ∙ returning.before k (omega arith)
+      same : x ≡ numbered a b c k
+      same = read ∙ returning.before k (omega arith)
 
       is : x ≡ block_at xs k
-      is = entry_is a b c n k x returning_read (omega arith)
+      is = entry_is a b c n k x same (omega arith)
 
       -- its sets begin where those of the blocks before end
       returning_sum : at ≡ lower_sum (take k xs) + x.lower
       returning_sum = let low : x.lower ≡ (block_at xs k).lower = ap (λ y. y.lower) is in omega (arith, low, rw next at returning.sum, sum_next xs k there)
 
-      -- its entries end where the others begin
-      pub returning_end : (x.lower ≤ at) × (at ≤ total) × (at - x.lower + k + x.lower + 1 ≤ total + n)
-      returning_end =
-          let most : at ≤ total = omega (arith, returning.sum, sum_mono xs i n few, sum_all xs n size) in
-          (omega (arith, returning_sum), most, omega (arith, returning_sum))
+      most : at ≤ total
+      most = omega (arith, returning.sum, sum_mono xs i n few, sum_all xs n size)
 
       module _ (firsts sets : List ℕ) (stored : Stored t Q xs n firsts sets) where
         first_is : get_or firsts k 0 ≡ entering t Q xs k
@@ -124,13 +130,21 @@ module _ (t : Table) (Q E : ℕ) (a b c : List ℕ) (n total : ℕ) (all : total
         from : at - x.lower ≡ lower_sum (take k xs)
         from = omega (arith, returning_sum)
 
-        -- its sets are stored
-        pub returning_places : Places t x.base (get_or firsts k 0) x.lower sets (at - x.lower)
-        returning_places = rw (from, first_is, is) (stored.places k (omega arith))
-
         -- its R is what stands before the next block
-        pub returning_within : within ≡ final t (get_or firsts k 0) (segments_of x)
+        returning_within : within ≡ final t (get_or firsts k 0) (segments_of x)
         returning_within = rw (returning.here, next, first_is, is) (entering_next t Q xs k there)
+
+        -- it is taken
+        pub returning_taken : (m : ℕ) → Room m xs → Taken t m n total sets within at k (get_or firsts k 0) x
+        returning_taken m room =
+            record {
+              formed = entry_formed a b c n k m x same (omega arith) room;
+              begins = omega (arith, returning_sum);
+              below = most;
+              ends = omega (arith, returning_sum, most);
+              places = rw (from, first_is, is) (stored.places k (omega arith));
+              reached = returning_within;
+            }
 
         -- its entries are written
         pub returning_more : (a'' b'' c'' : List ℕ) (r : ℕ) → r ≡ kept_to t kept (get_or firsts k 0) (segments_of x)
@@ -152,7 +166,7 @@ module _ (t : Table) (Q E : ℕ) (a b c : List ℕ) (n total : ℕ) (all : total
                   (λ p l. rw (← returning_within) (returning.inside p l)) q (rw e at m);
               states = rw (e, first_is, rest, is) (sym (kept_next t E Q xs k there));
               made =
-                  between_append a'' b'' c'' (at - x.lower + k) (at + i) (total + n) (omega (arith, behind)) (omega (arith, returning_end))
+                  between_append a'' b'' c'' (at - x.lower + k) (at + i) (total + n) (omega (arith, behind)) (omega (arith, most))
                   ∙ ap₂ ◌++◌ first others
                   ∙ rw (first_is, rest, is) (sym (entries_next t E Q xs k there));
             }

@@ -34,11 +34,8 @@ pub(crate) fn step_by_letters(shape: Shape, moves: &[u8], base: u64, known: &mut
     ensures known_2 { Known (table shape moves.now) base known.new }
 {
     let mut found = 0;
-    let mut rest = base;
-    while rest != 0 {
-        let c = bitset::first_member(rest);
+    for c in bitset::members(base) {
         found = bitset::union(found, recall_image(shape, moves, base, known, c));
-        rest = bitset::without_first(rest);
     }
     found
 }

@@ -58,14 +58,11 @@ fn step_by_states(shape: Shape, moves: &[u8], base: u64, known: &mut [u64], from
 {
     let most = limit(shape, known[132], from);
     let mut found = 0;
-    let mut rest = from;
-    while rest != 0 {
+    for q in bitset::members(from) {
         if found == most {
             return found;
         }
-        let q = bitset::first_member(rest);
         found = bitset::union(found, recall(shape, moves, base, known, q));
-        rest = bitset::without_first(rest);
     }
     found
 }

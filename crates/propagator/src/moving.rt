@@ -11,7 +11,8 @@ use crate::Shape;
 // The state that state `q`, the dead state or one without a number among them, moves to by letter `c`.
 fn next(shape: Shape, moves: &[u8], q: usize, c: usize) -> usize
     requires { Usable shape moves.now × (c < shape.letters) }
-    ensures { result ≡ automaton.next (table shape moves.now) q c }
+    ensures value { result ≡ automaton.next (table shape moves.now) q c }
+    ensures small { result < 64 }
 {
     if q < shape.states {
         return records::next_state(shape.states, shape.letters, moves, q, c);
@@ -24,14 +25,7 @@ pub(crate) fn successors(shape: Shape, moves: &[u8], base: u64, q: usize) -> u64
     requires { Usable shape moves.now × Below shape.letters base }
     ensures { result ≡ reach (table shape moves.now) base q }
 {
-    let mut found = 0;
-    let mut rest = base;
-    while rest != 0 {
-        let c = bitset::first_member(rest);
-        found = bitset::add(found, next(shape, moves, q, c));
-        rest = bitset::without_first(rest);
-    }
-    found
+    bitset::members(base).fold(0, |found, c| bitset::add(found, next(shape, moves, q, c)))
 }
 
 // The states after the letter `c` from states of `from`.
@@ -39,31 +33,18 @@ pub(crate) fn image(shape: Shape, moves: &[u8], from: u64, c: usize) -> u64
     requires { Usable shape moves.now × (c < shape.letters) }
     ensures { result ≡ spec.image (table shape moves.now) from c }
 {
-    let mut found = 0;
-    let mut rest = from;
-    while rest != 0 {
-        let q = bitset::first_member(rest);
-        found = bitset::add(found, next(shape, moves, q, c));
-        rest = bitset::without_first(rest);
-    }
-    found
+    bitset::members(from).fold(0, |found, q| bitset::add(found, next(shape, moves, q, c)))
 }
 
 // Whether some move names no state. The greatest move is kept: the compiler then takes many at a time.
 fn some_missing(states: usize, moves: &[u8]) -> bool
-    requires { 0 < states }
     ensures { result ≡ some (leb states) moves.now }
 {
-    let mut most: u8 = 0;
-    let mut i = 0;
-    while i < moves.len() {
-        let state = moves[i];
-        if most < state {
-            most = state;
-        }
-        i += 1;
-    }
-    states <= most as usize
+    moves
+        .iter()
+        .copied()
+        .max()
+        .is_some_and(|most| states <= most as usize)
 }
 
 // The states of the book and, where some move names none, the dead state.
@@ -83,16 +64,9 @@ pub(crate) fn letters_to(shape: Shape, moves: &[u8], base: u64, q: usize, end: u
     requires { Usable shape moves.now × Below shape.letters base × (q < 64) }
     ensures { result ≡ between (table shape moves.now) base (2 ^ q) end }
 {
-    let mut found = 0;
-    let mut rest = base;
-    while rest != 0 {
-        let c = bitset::first_member(rest);
-        if bitset::has(end, next(shape, moves, q, c)) {
-            found = bitset::add(found, c);
-        }
-        rest = bitset::without_first(rest);
-    }
-    found
+    bitset::members(base)
+        .filter(|c| bitset::has(end, next(shape, moves, q, *c)))
+        .fold(0, bitset::add)
 }
 
 // Whether some letter of `base` leads from state `q` to a state of `end`.
@@ -100,13 +74,5 @@ pub(crate) fn some_letter_to(shape: Shape, moves: &[u8], base: u64, q: usize, en
     requires { Usable shape moves.now × Below shape.letters base }
     ensures { result ≡ leads (table shape moves.now) base end q }
 {
-    let mut rest = base;
-    while rest != 0 {
-        let c = bitset::first_member(rest);
-        if bitset::has(end, next(shape, moves, q, c)) {
-            return true;
-        }
-        rest = bitset::without_first(rest);
-    }
-    false
+    bitset::members(base).any(|c| bitset::has(end, next(shape, moves, q, c)))
 }

@@ -25,16 +25,10 @@ fn raise(shape: Shape, moves: &[u8], base: u64, within: u64, level: u64) -> u64
     requires { Usable shape moves.now × Below shape.letters base }
     ensures { result ≡ either level (before (table shape moves.now) base within level) }
 {
-    let mut found = level;
-    let mut rest = bitset::difference(within, level);
-    while rest != 0 {
-        let q = bitset::first_member(rest);
-        if some_letter_to(shape, moves, base, q, level) {
-            found = bitset::add(found, q);
-        }
-        rest = bitset::without_first(rest);
-    }
-    found
+    let more = bitset::members(bitset::difference(within, level))
+        .filter(|q| some_letter_to(shape, moves, base, *q, level))
+        .fold(0, bitset::add);
+    bitset::union(level, more)
 }
 
 // Level `height`, through states of `within` to states of `end`. Where a level repeats, all above are that level.

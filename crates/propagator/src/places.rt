@@ -27,15 +27,12 @@ pub(crate) fn narrow_place(shape: Shape, moves: &[u8], base: u64, from: u64, end
 {
     let mut letters = 0;
     let mut states = 0;
-    let mut rest = from;
-    while rest != 0 {
-        let q = bitset::first_member(rest);
+    for q in bitset::members(from) {
         let fresh = letters_to(shape, moves, bitset::difference(base, letters), q, end);
         if fresh != 0 || some_letter_to(shape, moves, letters, q, end) {
             states = bitset::add(states, q);
         }
         letters = bitset::union(letters, fresh);
-        rest = bitset::without_first(rest);
     }
     Kept {
         from,

@@ -1,5 +1,4 @@
 // The commands on letters and their signs.
-use alphabet::Letter;
 use case_text::show;
 use std::io;
 use std::io::Write;
@@ -14,27 +13,20 @@ pub fn signs(out: &mut impl Write, numbers: &[u8]) -> io::Result<()> {
 
 // Writes the sign of a letter, `.` for a number that is no letter.
 fn sign(out: &mut impl Write, number: u8) -> io::Result<()> {
-    let sign = alphabet::sign_of(number);
-    if sign == 0 {
-        show::text(out, b".")
-    } else {
-        show::text(out, &[sign])
+    match alphabet::sign_of(number) {
+        0 => out.write_all(b"."),
+        sign => out.write_all(&[sign]),
     }
 }
 
-// Writes the letter whose sign each byte is.
+// Writes the letter whose sign each byte is, `none` for a byte that is no sign.
 pub fn numbers(out: &mut impl Write, bytes: &[u8]) -> io::Result<()> {
     for (i, byte) in bytes.iter().enumerate() {
         show::blank_before(out, i)?;
-        letter(out, *byte)?;
+        match alphabet::letter_of(*byte) {
+            Some(letter) => write!(out, "{letter}")?,
+            None => out.write_all(b"none")?,
+        }
     }
     Ok(())
-}
-
-// Writes the letter whose sign the byte is, `none` for a byte that is no sign.
-fn letter(out: &mut impl Write, byte: u8) -> io::Result<()> {
-    match alphabet::letter_of(byte) {
-        Letter::Number(n) => show::number(out, n as u64),
-        Letter::None => show::text(out, b"none"),
-    }
 }

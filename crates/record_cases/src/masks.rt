@@ -4,43 +4,39 @@ ghost use Rattle.record_cases.specs.Holds.{Holds};
 use case_text::buffer::untouched;
 use case_text::show;
 use model::Block;
-use records::MaskOrRefusal;
 use std::io;
 use std::io::Write;
 
 // Writes the numbers of a mask, its blocks where they are few, and whether it comes back as it was; or its refusal.
+#[tactic(auto, using(crate::proofs::Accepted::mask_lent))]
 pub fn mask(out: &mut impl Write, bytes: &[u8]) -> io::Result<()> {
     match records::read_mask(bytes) {
-        MaskOrRefusal::Refused(number) => show::refused(out, number),
-        MaskOrRefusal::Accepted(mask) => {
-            show::text(out, b"mask")?;
-            show::next_number(out, mask.blocks as u64)?;
-            show::next_number(out, mask.uppers as u64)?;
+        Err(refusal) => show::refused(out, refusal.number()),
+        Ok(mask) => {
+            write!(out, "mask {} {}", mask.blocks, mask.uppers)?;
             if mask.blocks <= 8 {
                 blocks(out, bytes, mask.blocks)?;
             }
-            if comes_back(bytes, mask.blocks) {
-                show::text(out, b" same")
+            let word = if comes_back(bytes, mask.blocks) {
+                "same"
             } else {
-                show::text(out, b" differs")
-            }
+                "differs"
+            };
+            write!(out, " {word}")
         }
     }
 }
 
 // Writes 9 where some set of a mask has a letter that is the first byte or above, else 0; or the mask's refusal.
 pub fn letters(out: &mut impl Write, bytes: &[u8]) -> io::Result<()> {
-    if bytes.len() == 0 {
+    let Some((least, record)) = bytes.split_first() else {
         return show::unreadable(out);
-    }
-    match records::read_mask(&bytes[1..]) {
-        MaskOrRefusal::Refused(number) => show::refused(out, number),
-        MaskOrRefusal::Accepted(mask) => {
-            if records::some_foreign(mask, bytes[0] as usize) {
-                show::text(out, b"9")
-            } else {
-                show::text(out, b"0")
-            }
+    };
+    match records::read_mask(record) {
+        Err(refusal) => show::refused(out, refusal.number()),
+        Ok(mask) => {
+            let foreign = records::some_foreign(mask, *least as usize);
+            out.write_all(if foreign { b"9" } else { b"0" })
         }
     }
 }
@@ -57,11 +53,7 @@ fn blocks(out: &mut impl Write, bytes: &[u8], blocks: usize) -> io::Result<()>
 
 // Writes the set and the bounds of a block.
 fn block(out: &mut impl Write, block: Block) -> io::Result<()> {
-    show::next_number(out, block.base)?;
-    show::text(out, b"-")?;
-    show::number(out, block.lower as u64)?;
-    show::text(out, b"-")?;
-    show::number(out, block.upper as u64)
+    write!(out, " {}-{}-{}", block.base, block.lower, block.upper)
 }
 
 // Whether the blocks of a mask, read and written again, give the mask's bytes and leave what lies behind them.
@@ -74,5 +66,6 @@ fn comes_back(bytes: &[u8], blocks: usize) -> bool
     records::read_blocks(bytes, blocks, &mut bases, &mut lowers, &mut uppers);
     let mut out = [0xEEu8; 12300];
     let size = records::write_mask(&bases, &lowers, &uppers, blocks, &mut out);
-    bytes == &out[..size] && untouched(&out[size..])
+    let (record, behind) = out.split_at(size);
+    bytes == record && untouched(behind)
 }

@@ -1,10 +1,10 @@
 -- Blocks copied into three slices.
 -- Assumes nothing.
-use Rattle.std.proofs.Common.{◌≡◌, ℕ, zero, suc, ◌+◌, ◌<◌, ◌≤◌, List, [], ◌∷◌, length, take, set, refl, ◌∙◌, ap₂, arith, length-set, take_all, get_or-set_other, get_or-set_same, below_more}
+use Rattle.std.proofs.Common.{◌-◌, drop-cons, ◌≡◌, ℕ, zero, suc, ◌+◌, ◌<◌, ◌≤◌, List, [], ◌∷◌, length, take, set, refl, ◌∙◌, ap₂, arith, length-set, take_all, get_or-set_other, get_or-set_same, below_more}
 use Rattle.model.specs.declared.Block.{Block}
 use Rattle.model.specs.DashedString.{block_at, values}
 use Rattle.records.specs.Mask.{count, mask_of}
-use Rattle.records.specs.Written.{numbered, Enough}
+use Rattle.records.specs.Written.{blocks_between, numbered, Enough}
 use Rattle.records.proofs.Offsets.{blocks_counted}
 
 -- k values that are the first blocks of a list, each at its number, are the list's front
@@ -19,6 +19,13 @@ pub record_values : (bs : List ℕ) → values (block_at (mask_of bs)) (count bs
 record_values bs =
     values_are (count bs) (mask_of bs) (block_at (mask_of bs)) (omega (arith, blocks_counted bs)) (λ j h. refl)
     ∙ take_all (count bs) (mask_of bs) (omega (arith, blocks_counted bs))
+
+-- the blocks from entry i on: that entry, and the others
+pub between_cons : (b l u : List ℕ) (i end : ℕ) → i < end → Enough b l u end
+    → blocks_between b l u i end ≡ numbered b l u i ∷ blocks_between b l u (suc i) end
+between_cons b l u i end h e =
+    let more : end - i ≡ suc (end - suc i) = omega arith in
+    rw (more, drop-cons b i 0 (omega arith), drop-cons l i 0 (omega arith), drop-cons u i 0 (omega arith))
 
 -- a block stored as entry i of three slices
 module _ (b l u : List ℕ) (i : ℕ) (x : Block) where

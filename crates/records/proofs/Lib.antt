@@ -9,7 +9,7 @@ pub mod Over
 pub mod RoundTrip
 pub mod Stores
 pub mod Copies
-pub mod Steps
+pub mod Words
 pub mod Walk
 pub mod Taking
 pub mod Next

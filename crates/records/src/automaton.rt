@@ -2,18 +2,18 @@
 ghost use Rattle.std.specs.Prelude.{◌≡◌, ◌≤◌, length};
 ghost use Rattle.records.specs.Book as spec;
 
-use crate::number::wide;
 use crate::{Book, moves, number};
 
 // The numbers of the head.
+#[tactic(auto, unfolding(crate::specs::Book::book_head))]
 pub(crate) fn head(bytes: &[u8]) -> Book
     requires { 15 ≤ length bytes.now }
     ensures { result ≡ spec.book_head bytes.now }
 {
     Book {
-        states: wide(bytes[4]) as usize,
-        letters: wide(bytes[5]) as usize,
-        start: wide(bytes[6]) as usize,
+        states: usize::from(bytes[4]),
+        letters: usize::from(bytes[5]),
+        start: usize::from(bytes[6]),
         accepting: number::read(bytes, 7, 8),
     }
 }

@@ -112,15 +112,13 @@ pub fn check_blocks(
 }
 
 // The state that state `q` moves to by letter `c`: `states`, the dead state, where the move names none.
+#[tactic(auto, using(crate::proofs::Next::next_names, crate::proofs::Next::next_dead))]
 pub fn next_state(states: usize, letters: usize, moves: &[u8], q: usize, c: usize) -> usize
     requires { (q < states) × (c < letters) × (states * letters ≤ length moves.now) }
     ensures { result ≡ next (table_of states letters moves.now) q c }
 {
-    let state = number::wide(moves[q * letters + c]) as usize;
-    if state < states {
-        return state;
-    }
-    states
+    let state = usize::from(moves[q * letters + c]);
+    if state < states { state } else { states }
 }
 
 // Block `i` of a mask, from 0.

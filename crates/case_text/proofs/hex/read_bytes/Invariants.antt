@@ -5,4 +5,4 @@ abbrev pub invariant-loop-token : goal.invariant-loop-token
 invariant-loop-token l =
     (goal.iterator-loop-token).can_next l.token-iterator ×
     (goal.iterator-loop-token).is_finite l.token-iterator ×
-    (l.count ≤ length l.bytes)
+    (l.count ≤ length l.room)

@@ -1,27 +1,21 @@
 -- `propagator::moving::image` meets its contract.
 use Prim.Native.Nat.{◌^◌}
-use mathlib.Core.Path.{ap}
-use native.Mathlib.Omega.{arith}
-use Rattle.propagator.proofs.Collecting.{collecting_starts, union_more}
-use Rattle.propagator.proofs.Letters.{moved_small, moved_bytes, image_end}
+use mathlib.Core.Path.{◌∙◌}
+use borrow.Author.Rules.{rules}
+use Rattle.std.proofs.lemmas.Iterator.Consumers.{fold_from_yields_List}
+use Rattle.model.specs.Set.{either}
+use Rattle.model.specs.Automaton.{next}
+use Rattle.bitset.proofs.Going.{in_order, called_with_each}
+use Rattle.bitset.proofs.Listed.{union_listed}
+use Rattle.propagator.specs.Known.{image}
+use Rattle.propagator.specs.Moves.{table}
 use Rattle.propagator.proofs.moving.image.Goals as goal
 
-pub loop-rest-init : goal.loop-rest-init
-loop-rest-init c = collecting_starts _ _
-
-pub next-requires : goal.next-requires
-next-requires c = c.requires
-
-pub add-found-requires : goal.add-found-requires
-add-found-requires c = moved_small _ _ _ _ c.next.ensures c.requires.0.small
-
-pub loop-rest-smaller : goal.loop-rest-smaller
-loop-rest-smaller c = c.without_first-rest.ensures.1
-
-pub loop-rest-preserved : goal.loop-rest-preserved
-loop-rest-preserved c =
-    union_more _ _ _ _ c.loop-rest.invariant _ _ _ _ c.first_member-q.ensures.member (ap (λ r. 2 ^ r) c.next.ensures) (moved_bytes _ c.requires.0.small _ _ _ c.next.ensures)
-    c.add-found.ensures (c.without_first-rest.ensures.0 _ c.first_member-q.ensures)
+pub fold-requires-clause-callable : goal.fold-requires-clause-callable
+fold-requires-clause-callable c = called_with_each _ _ c.members.ensures (λ b x q s. search rules) (λ b x m. search rules)
 
 pub returns : goal.returns
-returns c = image_end _ c.requires.0.small _ _ _ _ c.loop-rest.invariant (omega arith)
+unfolding image
+returns c =
+    fold_from_yields_List _ (λ a x. either a (2 ^ next (table c.args.shape c.args.moves.now) x c.args.c)) 0 _ c.fold.ensures.ran (in_order _ _ c.members.ensures) (λ a x b q s. search rules)
+    ∙ union_listed c.args.from (λ x. 2 ^ next (table c.args.shape c.args.moves.now) x c.args.c)

@@ -1,28 +1,20 @@
 -- `propagator::moving::some_letter_to` meets its contract.
-use mathlib.Core.Path.{sym, ◌∙◌}
-use native.Mathlib.Omega.{arith}
-use Rattle.propagator.proofs.Letters.{moved_small, seeking_starts, seeking_finds, seeking_more, seeking_ends}
+use mathlib.Core.Path.{◌∙◌}
+use borrow.Author.Rules.{rules}
+use borrow.Author.Tests.{tests}
+use Rattle.std.proofs.lemmas.Iterator.Search.{any_from_yields_List}
+use Rattle.model.specs.Set.{has}
+use Rattle.model.specs.Automaton.{next}
+use Rattle.bitset.proofs.Going.{in_order, called_at_each}
+use Rattle.bitset.proofs.Listed.{any_listed}
+use Rattle.propagator.specs.Moves.{table, leads}
 use Rattle.propagator.proofs.moving.some_letter_to.Goals as goal
 
-pub loop-rest-init : goal.loop-rest-init
-loop-rest-init c = seeking_starts _ _ _ _
-
-pub next-requires : goal.next-requires
-next-requires c = (c.requires.0, c.requires.1 _ (c.loop-rest.invariant.within _ c.first_member-c.ensures.member))
-
-pub has-requires : goal.has-requires
-has-requires c = moved_small _ _ _ _ c.next.ensures c.requires.0.small
-
-pub returns-then-has : goal.returns-then-has
-returns-then-has c = seeking_finds _ _ _ _ _ c.loop-rest.invariant _ _ c.first_member-c.ensures.member c.next.ensures (sym c.has.ensures ∙ c.if-has.true)
-
-pub loop-rest-smaller : goal.loop-rest-smaller
-loop-rest-smaller c = c.without_first-rest.ensures.1
-
-pub loop-rest-preserved : goal.loop-rest-preserved
-loop-rest-preserved c =
-    seeking_more _ _ _ _ _ c.loop-rest.invariant _ _ _ c.first_member-c.ensures.member c.next.ensures
-    (sym c.has.ensures ∙ c.if-has.false) (c.without_first-rest.ensures.0 _ c.first_member-c.ensures)
+pub any-requires-clause-callable : goal.any-requires-clause-callable
+any-requires-clause-callable c = called_at_each _ _ c.members.ensures (λ x q s. search rules) (λ x m. let below = c.requires.1 x m in search rules)
 
 pub returns : goal.returns
-returns c = seeking_ends _ _ _ _ _ c.loop-rest.invariant (omega arith)
+unfolding leads
+returns c =
+    any_from_yields_List (λ x. has c.args.end (next (table c.args.shape c.args.moves.now) c.args.q x)) _ _ _ c.any.ensures.ran (in_order _ _ c.members.ensures) (λ x b q s. search (rules, tests))
+    ∙ any_listed c.args.base (λ x. has c.args.end (next (table c.args.shape c.args.moves.now) c.args.q x))

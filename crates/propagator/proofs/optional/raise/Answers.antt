@@ -1,29 +1,29 @@
 -- `propagator::optional::raise` meets its contract.
+use Prim.Native.Nat.{◌^◌}
 use mathlib.Core.Path.{◌∙◌}
-use mathlib.Core.Logic.{inl, inr}
-use native.Mathlib.Omega.{arith}
 use borrow.Author.Rules.{rules}
-use Rattle.propagator.proofs.Levels.{raising_starts, raising_more, raising_ends}
+use borrow.Author.Tests.{tests}
+use Rattle.std.proofs.lemmas.Iterator.Consumers.{YieldsList-from_filter, fold_from_yields_List}
+use Rattle.model.specs.Set.{either}
+use Rattle.bitset.proofs.Going.{in_order, called_along, in_picked}
+use Rattle.bitset.proofs.Listed.{members_listed}
+use Rattle.propagator.specs.Moves.{table, leads}
+use Rattle.propagator.proofs.Levels.{level_raised}
 use Rattle.propagator.proofs.optional.raise.Goals as goal
-use Rattle.propagator.proofs.optional.raise.Goals.{then-some_letter_to, else-some_letter_to}
 
-pub loop-rest-init : goal.loop-rest-init
-loop-rest-init c = raising_starts _ c.requires.0.small _ _ _ _ (search rules) c.difference-rest.ensures
-
-pub some_letter_to-requires : goal.some_letter_to-requires
-some_letter_to-requires c = c.requires
-
-pub add-found-requires : goal.add-found-requires
-add-found-requires c = c.first_member-q.ensures.member.small
-
-pub loop-rest-smaller : goal.loop-rest-smaller
-loop-rest-smaller c = c.without_first-rest.ensures.1
-
-pub loop-rest-preserved : goal.loop-rest-preserved
-loop-rest-preserved c =
-    raising_more _ c.requires.0.small _ c.args.within _ _ _ _ _ _ _ _ c.loop-rest.invariant c.first_member-q.ensures.member
-    (c.without_first-rest.ensures.0 _ c.first_member-q.ensures) c.some_letter_to.ensures
-    (elim c.if-some_letter_to.branch [ then-some_letter_to w ↦ inl (w.if-some_letter_to.true, w.found-is ∙ w.add-found.ensures) | else-some_letter_to w ↦ inr (w.if-some_letter_to.false, w.found-is) ])
+pub fold-more-requires-clause-callable : goal.fold-more-requires-clause-callable
+fold-more-requires-clause-callable c =
+    let test = leads (table c.args.shape c.args.moves.now) c.args.base c.args.level in
+    let order = in_order c.difference.result _ (c.filter.ensures.source ∙ c.members.ensures) in
+    called_along (YieldsList-from_filter _ test order c.filter.ensures.closure (λ x b s k. search (rules, tests))) (λ b x s k. search rules)
+    (λ b x m. let small = (in_picked c.difference.result test x m).small in search rules)
 
 pub returns : goal.returns
-returns c = raising_ends _ c.requires.0.small _ _ _ _ _ (search rules) c.loop-rest.invariant (omega arith)
+returns c =
+    let test = leads (table c.args.shape c.args.moves.now) c.args.base c.args.level in
+    let order = in_order c.difference.result _ (c.filter.ensures.source ∙ c.members.ensures) in
+    c.union.ensures
+    ∙ level_raised _ c.requires.0.small _ c.args.within _ _ _ (search rules) c.difference.ensures
+    (fold_from_yields_List _ (λ a x. either a (2 ^ x)) 0 _ c.fold-more.ensures.ran
+    (YieldsList-from_filter _ test order c.filter.ensures.closure (λ x b s k. search (rules, tests))) (λ a x b s k. search rules)
+    ∙ members_listed c.difference.result test)

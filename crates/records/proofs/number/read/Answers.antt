@@ -1,20 +1,15 @@
 -- `records::number::read` meets its contract.
-use Rattle.std.proofs.Common.{arith}
-use Rattle.records.proofs.Steps.{reading_starts, reading_fits, reading_more}
+use Rattle.std.proofs.Common.{◌≡◌, ◌+◌, ◌-◌, take, drop, ◌∙◌, arith}
+use Rattle.records.specs.Bytes.{number_at}
+use Rattle.records.proofs.Numbers.{number_lt}
+use Rattle.records.proofs.Words.{word_read}
 use Rattle.records.proofs.number.read.Goals as goal
 
-pub loop-i-init : goal.loop-i-init
-loop-i-init c = reading_starts _ _ _
-
-pub overflow_add-number : goal.overflow_add-number
-overflow_add-number c =
-    let fits = reading_fits _ _ _ _ _ _ c.loop-i.invariant (omega arith) c.wide.ensures.0 (omega arith) (omega arith) in
-    record { fits = fits }
-
-pub overflow_mul-number : goal.overflow_mul-number
-overflow_mul-number c =
-    let fits = reading_fits _ _ _ _ _ _ c.loop-i.invariant (omega arith) c.wide.ensures.0 (omega arith) (omega arith) in
-    record { fits = omega (arith, fits) }
-
-pub loop-i-preserved : goal.loop-i-preserved
-loop-i-preserved c = reading_more _ _ _ _ _ _ c.loop-i.invariant (omega arith) c.wide.ensures.0 (omega arith)
+pub returns : goal.returns
+returns c =
+    let a = c.args in
+    let all : a.at + a.width - a.at ≡ a.width = omega arith in
+    let part : c.copy_from_slice.new.self ≡ take (a.at + a.width - a.at) (drop a.at a.bytes.now) = c.copy_from_slice.ensures.after in
+    let value : c.from_le_bytes.result ≡ number_at a.width a.bytes.now a.at
+    = c.from_le_bytes.ensures ∙ word_read a.bytes.now a.at a.width c.copy_from_slice.new.self (omega arith) (omega arith) (rw all at part) in
+    (value, rw value (number_lt a.width a.bytes.now a.at (λ i. omega (arith, c.type_inv.bytes i))))

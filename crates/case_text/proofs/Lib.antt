@@ -1,0 +1,2 @@
+-- Lemmas that several answers cite.
+pub mod Decimal
