@@ -1,16 +1,17 @@
--- The normal form of the last blocks of three lists, and of one block more.
+-- The normal form of the last blocks, and of one block more.
 -- Assumes nothing.
-use Rattle.std.proofs.Common.{◌≡◌, ℕ, zero, suc, ◌-◌, ◌<◌, ◌≤◌, Bool, true, false, cond, List, [], ◌∷◌, refl, arith}
+use Rattle.std.proofs.Common.{◌≡◌, ℕ, zero, suc, ◌-◌, ◌<◌, ◌≤◌, Bool, true, false, cond, List, [], ◌∷◌, length, drop, refl, arith}
+use Rattle.std.proofs.lemmas.List.{drop_all}
+use lib.Seq.{drop-cons}
 use Rattle.model.specs.declared.Block.{Block}
+use Rattle.model.specs.DashedString.{block, block_at}
 use Rattle.model.specs.Size.{Room}
 use Rattle.model.specs.NormalForm.{idle, dropped, join, joined, normal}
 use Rattle.model.proofs.Room.{normal_room}
-use Rattle.records.specs.Written.{numbered, blocks_of, blocks_between, Enough}
-use Rattle.records.proofs.Copies.{between_cons}
 use Rattle.normal_form.specs.Pushed.{in_front}
 
 -- the normal form of one block more
-normal_cons : (x : Block) (xs : List Block) → normal (x ∷ xs) ≡ in_front x (normal xs)
+pub normal_cons : (x : Block) (xs : List Block) → normal (x ∷ xs) ≡ in_front x (normal xs)
 unfolding normal dropped joined
 normal_cons x xs = go (idle x)
   where
@@ -18,32 +19,31 @@ normal_cons x xs = go (idle x)
     go true = refl
     go false = refl
 
--- of no block
-pub normal_none : (a b c : List ℕ) (n : ℕ) → blocks_between a b c n n ≡ normal (blocks_between a b c n n)
-unfolding normal dropped joined
-normal_none a b c n = let none : n - n ≡ 0 = omega arith in rw none
+module _ (xs : List Block) where
+  -- of no block
+  pub normal_none : drop (length xs) xs ≡ normal (drop (length xs) xs)
+  unfolding normal dropped joined
+  normal_none = rw (drop_all (length xs) xs (omega arith))
 
-module _ (a b c : List ℕ) (count : ℕ) (e : Enough a b c count) where
   -- of the block before those from i on, and those
-  pub normal_more : (i : ℕ) → 0 < i → i ≤ count
-      → normal (blocks_between a b c (i - 1) count) ≡ in_front (numbered a b c (i - 1)) (normal (blocks_between a b c i count))
+  pub normal_more : (i : ℕ) → 0 < i → i ≤ length xs → normal (drop (i - 1) xs) ≡ in_front (block_at xs (i - 1)) (normal (drop i xs))
   normal_more i h l =
       let back : suc (i - 1) ≡ i = omega arith in
-      rw (rw back at (between_cons a b c (i - 1) count (omega arith) e), normal_cons)
+      rw (drop-cons xs (i - 1) (block 0 0 0) (omega arith), normal_cons, back)
 
   -- the blocks from i on have room where all have
-  room_from : Room 64 (blocks_of a b c count) → (i : ℕ) → i ≤ count → Room 64 (blocks_between a b c i count)
-  room_from r zero h = let all : count - 0 ≡ count = omega arith in rw all r
+  room_from : Room 64 xs → (i : ℕ) → i ≤ length xs → Room 64 (drop i xs)
+  room_from r zero h = r
   room_from r (suc i) h =
-      let more = rw (between_cons a b c i count h e) at (room_from r i (omega arith)) in
+      let more = rw (drop-cons xs i (block 0 0 0) h) at (room_from r i (omega arith)) in
       record { each = more.each.1; sum = omega (arith, more.sum) }
 
   -- so has block i alone
-  pub room_at : Room 64 (blocks_of a b c count) → (i : ℕ) → i < count → Room 64 (numbered a b c i ∷ [])
+  pub room_at : Room 64 xs → (i : ℕ) → i < length xs → Room 64 (block_at xs i ∷ [])
   room_at r i h =
-      let more = rw (between_cons a b c i count h e) at (room_from r i (omega arith)) in
+      let more = rw (drop-cons xs i (block 0 0 0) h) at (room_from r i (omega arith)) in
       record { each = (more.each.0, tt); sum = omega (arith, more.sum) }
 
   -- and the normal form of those from i on
-  pub room_normal : Room 64 (blocks_of a b c count) → (i : ℕ) → i ≤ count → Room 64 (normal (blocks_between a b c i count))
-  room_normal r i h = normal_room 64 (blocks_between a b c i count) (room_from r i h)
+  pub room_normal : Room 64 xs → (i : ℕ) → i ≤ length xs → Room 64 (normal (drop i xs))
+  room_normal r i h = normal_room 64 (drop i xs) (room_from r i h)

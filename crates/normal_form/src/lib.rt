@@ -2,55 +2,45 @@
 // equal sets become one. What it is stands in model's specs/.
 #![tactic(auto)]
 
-ghost use Rattle.std.specs.Prelude.{◌≡◌, [], ◌∷◌, ◌≤◌, ◌<◌, length, set};
+ghost use Rattle.std.specs.Prelude.{◌≡◌, [], ◌∷◌, ◌≤◌, ◌<◌, length, drop};
+ghost use Rattle.model.specs.DashedString.{block_at};
 ghost use Rattle.model.specs.Size.{Room};
 ghost use Rattle.model.specs.NormalForm.{idle, normal};
-ghost use Rattle.records.specs.Written.{numbered, blocks_of, blocks_between, Enough};
 ghost use Rattle.normal_form.specs.Pushed.{Pushed};
 
 use model::Block;
 
-// Makes the normal form of the first `count` blocks, whose sets and bounds the three slices hold, from the last block to the
-// first. It stands at the end of these: from the entry whose number is returned up to `count`.
+// Makes the normal form of the blocks, from the last to the first. It stands at their end: from the entry whose number is
+// returned on.
 #[tactic(auto, using(crate::proofs::Turns::normal_none, crate::proofs::Turns::room_normal))]
-pub fn normalize(bases: &mut [u64], lowers: &mut [u16], uppers: &mut [u16], count: usize) -> usize
-    requires enough { Enough bases.old lowers.old uppers.old count }
-    requires room { Room 64 (blocks_of bases.old lowers.old uppers.old count) }
-    ensures { let made = blocks_between bases.new lowers.new uppers.new result count in
-        (result ≤ count) × (made ≡ normal (blocks_of bases.old lowers.old uppers.old count)) }
+pub fn normalize(blocks: &mut [Block]) -> usize
+    requires { Room 64 blocks.old }
+    ensures { (result ≤ length blocks.old) × (length blocks.new ≡ length blocks.old) × (drop result blocks.new ≡ normal blocks.old) }
 {
-    let mut at = count;
-    for i in (0..count).rev() {
-        at = push(bases, lowers, uppers, i, at, count);
+    let mut at = blocks.len();
+    for i in (0..blocks.len()).rev() {
+        at = push(blocks, i, at);
     }
     at
 }
 
-// Puts block `i` in front of the normal form in the entries from `at` up to `end`, and returns where that begins then.
-fn push(
-    bases: &mut [u64],
-    lowers: &mut [u16],
-    uppers: &mut [u16],
-    i: usize,
-    at: usize,
-    end: usize,
-) -> usize
-    requires enough { Enough bases.old lowers.old uppers.old end }
-    requires i_lt_at { (i < at) × (at ≤ end) }
-    requires room { Room 64 (numbered bases.old lowers.old uppers.old i ∷ []) }
-    requires room_2 { Room 64 (blocks_between bases.old lowers.old uppers.old at end) }
-    ensures { Pushed bases.old lowers.old uppers.old i at end
-        bases.new lowers.new uppers.new result }
+// Puts block `i` in front of the normal form in the entries from `at` on, and returns where that begins then.
+fn push(blocks: &mut [Block], i: usize, at: usize) -> usize
+    requires i_lt_at { (i < at) × (at ≤ length blocks.old) }
+    requires room { Room 64 (block_at blocks.old i ∷ []) }
+    requires room_2 { Room 64 (drop at blocks.old) }
+    ensures { Pushed blocks.old i at blocks.new result }
 {
-    let block = block_at(bases, lowers, uppers, i);
+    let block = blocks[i];
     if idle(block) {
         at
-    } else if at < end && block.base == bases[at] {
-        lowers[at] += block.lower;
-        uppers[at] += block.upper;
+    } else if at < blocks.len() && block.base == blocks[at].base {
+        let first = &mut blocks[at];
+        first.lower += block.lower;
+        first.upper += block.upper;
         at
     } else {
-        store(bases, lowers, uppers, at - 1, block);
+        blocks[at - 1] = block;
         at - 1
     }
 }
@@ -60,28 +50,4 @@ fn idle(block: Block) -> bool
     ensures { result ≡ idle block }
 {
     block.upper == 0 || block.base == 0 && block.lower == 0
-}
-
-// Stores a block as entry `at`.
-pub fn store(bases: &mut [u64], lowers: &mut [u16], uppers: &mut [u16], at: usize, block: Block)
-    requires { (at < length bases.old) × (at < length lowers.old) × (at < length uppers.old) }
-    ensures bases_after { bases.new ≡ set bases.old at block.base }
-    ensures lowers_after { lowers.new ≡ set lowers.old at block.lower }
-    ensures uppers_after { uppers.new ≡ set uppers.old at block.upper }
-{
-    bases[at] = block.base;
-    lowers[at] = block.lower;
-    uppers[at] = block.upper;
-}
-
-// The block that stands as entry `at`.
-pub fn block_at(bases: &[u64], lowers: &[u16], uppers: &[u16], at: usize) -> Block
-    requires { (at < length bases.now) × (at < length lowers.now) × (at < length uppers.now) }
-    ensures { result ≡ numbered bases.now lowers.now uppers.now at }
-{
-    Block {
-        base: bases[at],
-        lower: lowers[at],
-        upper: uppers[at],
-    }
 }

@@ -1,6 +1,6 @@
-use Rattle.std.proofs.Common.{◌≡◌, ℕ, ◌<◌, ◌≤◌}
+use Rattle.std.proofs.Common.{◌≡◌, ℕ, ◌<◌, ◌≤◌, length, drop}
+use Rattle.model.specs.DashedString.{block_at}
 use Rattle.model.specs.NormalForm.{normal}
-use Rattle.records.specs.Written.{numbered, blocks_between}
 use Rattle.normal_form.proofs.normalize.Given as goal
 
 abbrev pub invariant-loop-i : goal.invariant-loop-i
@@ -8,7 +8,8 @@ invariant-loop-i l =
     let first = l.initial in
     record {
       behind : l.i ≤ l.at;
-      within : l.at ≤ l.count;
-      before : (j : ℕ) → j < l.i → numbered l.bases l.lowers l.uppers j ≡ numbered first.bases first.lowers first.uppers j;
-      made : blocks_between l.bases l.lowers l.uppers l.at l.count ≡ normal (blocks_between first.bases first.lowers first.uppers l.i l.count);
+      within : l.at ≤ length l.blocks;
+      size : length l.blocks ≡ length first.blocks;
+      before : (j : ℕ) → j < l.i → block_at l.blocks j ≡ block_at first.blocks j;
+      made : drop l.at l.blocks ≡ normal (drop l.i first.blocks);
     }
