@@ -76,11 +76,10 @@ module _ (f : ℕ → Block) (count : ℕ) (old out : List ℕ) (i : ℕ) (filli
       rw (filling.stored, all) (sets_over (blocks_bytes (values f count)) old fits)
 
 -- the head is written, then the blocks behind it, in the part from byte 6 on: the whole mask is
-pub mask_stored : (f : ℕ → Block) (count : ℕ) (old head part : List ℕ) → 6 + 12 * count ≤ length old → head ≡ sets old 0 (head_bytes count)
-    → part ≡ over (blocks_bytes (values f count)) (take (length head - 6) (drop 6 head))
-    → take 6 head ++ (part ++ drop (length head - 6) (drop 6 head)) ≡ over (mask_bytes (values f count)) old
+pub mask_stored : (xs : List Block) (old head part : List ℕ) → 6 + 12 * length xs ≤ length old → head ≡ sets old 0 (head_bytes (length xs))
+    → part ≡ over (blocks_bytes xs) (take (length head - 6) (drop 6 head))
+    → take 6 head ++ (part ++ drop (length head - 6) (drop 6 head)) ≡ over (mask_bytes xs) old
 unfolding bytes_of head_bytes mask_bytes
-mask_stored f count old head part h e written =
-    let six : head ≡ over (head_bytes count) old = e ∙ sets_over (head_bytes count) old (omega arith) in
-    let size : length (blocks_bytes (values f count)) ≡ 12 * count = rw length_values at (length_blocks_bytes (values f count)) in
-    rw (length_values f count) (part_over (head_bytes count) (blocks_bytes (values f count)) old head part (omega arith) six written)
+mask_stored xs old head part h e written =
+    let six : head ≡ over (head_bytes (length xs)) old = e ∙ sets_over (head_bytes (length xs)) old (omega arith) in
+    part_over (head_bytes (length xs)) (blocks_bytes xs) old head part (omega (arith, length_blocks_bytes xs)) six written

@@ -1,11 +1,11 @@
 -- What the checks leave: a sound automaton, and a mask that fits a record (01, "The four operations"). Nothing else is refused.
 -- Assumes nothing.
-use Rattle.std.proofs.Common.{◌≡◌, ℕ, zero, suc, ◌+◌, ◌*◌, ◌^◌, ◌<◌, ◌≤◌, Bool, true, false, not, ◌&&◌, ◌||◌, eqb, leb, ◌⊎◌, ◌↔◌, List, [], ◌∷◌, length, get_or, refl, ◌∙◌, inl, inr, ⊎_elim, arith, length-drop, ltb-false, le-ltb, eq-eqb, ne_eqb, eqb-true, leb-false}
+use Rattle.std.proofs.Common.{◌≡◌, ℕ, zero, suc, ◌+◌, ◌*◌, ◌^◌, ◌<◌, ◌≤◌, Bool, true, false, not, ◌&&◌, ◌||◌, eqb, leb, ◌⊎◌, ◌↔◌, List, [], ◌∷◌, length, refl, ◌∙◌, inl, inr, ⊎_elim, arith, length-drop, ltb-false, le-ltb, eq-eqb, ne_eqb, eqb-true, leb-false}
 use borrow.Author.Tests.{lt-leb, not-false}
 use Rattle.model.specs.declared.Block.{Block}
 use Rattle.model.specs.Refusal.{accepted}
 use Rattle.model.specs.Set.{Member, some_from}
-use Rattle.model.specs.DashedString.{values, Each, Bounded}
+use Rattle.model.specs.DashedString.{block_at, Each, Bounded}
 use Rattle.model.specs.Automaton.{Dfa}
 use Rattle.model.specs.Legal.{Checked}
 use Rattle.model.specs.Size.{uppers, WellFormed, Fits}
@@ -14,7 +14,6 @@ use Rattle.records.specs.Bytes.{Bytes}
 use Rattle.records.specs.Check.{some, length_field, kind, unframed}
 use Rattle.records.specs.Book.{book_head, moves_of, book_of, stray, unnamed, book_checks, book_refusal}
 use Rattle.records.specs.Mask.{count, block_from, blocks_from, mask_of, crossed, blocks_refusal, mask_refusal, beyond, foreign}
-use Rattle.records.specs.Written.{numbered, blocks_of}
 use Rattle.records.specs.WellFormed.{Sound, BookRecord, MaskRecord}
 use Rattle.records.proofs.Numbers.{number_lt}
 use Rattle.records.proofs.Offsets.{blocks_counted}
@@ -171,13 +170,10 @@ unfolding block_from blocks_from
 each_bytes bs h zero i = tt
 each_bytes bs h (suc k) i = (number_lt 8 bs i h, each_bytes bs h k (i + 12))
 
--- and in three slices
-pub slices_wide : (b l u : List ℕ) → ((i : ℕ) → get_or b i 0 < 2 ^ 64) → (k : ℕ) → Each Wide (blocks_of b l u k)
-slices_wide b l u h k = go (numbered b l u) h k
-  where
-    go : (f : ℕ → Block) → ((i : ℕ) → Wide (f i)) → (k : ℕ) → Each Wide (values f k)
-    go f h zero = tt
-    go f h (suc k) = (h 0, go (λ i. f (suc i)) (λ i. h (suc i)) k)
+-- and in a slice of blocks
+pub slice_wide : (xs : List Block) → ((i : ℕ) → i < length xs → Wide (block_at xs i)) → Each Wide xs
+slice_wide [] h = tt
+slice_wide (x ∷ xs) h = (h 0 (omega arith), slice_wide xs (λ i l. h (suc i) (omega arith)))
 
 -- every letter of the block is below m
 abbrev pub Native : ℕ → Block → Type 0

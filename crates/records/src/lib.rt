@@ -9,7 +9,7 @@ ghost use Rattle.model.specs.Automaton.{next};
 ghost use Rattle.records.specs.Bytes.{over};
 ghost use Rattle.records.specs.Book.{table_of, read_book};
 ghost use Rattle.records.specs.Mask.{count, mask_of, read_mask, read_blocks};
-ghost use Rattle.records.specs.Written.{mask_bytes, blocks_of, Enough};
+ghost use Rattle.records.specs.Written.{mask_bytes};
 
 mod automaton;
 mod blocks;
@@ -91,24 +91,12 @@ pub fn read_mask(bytes: &[u8]) -> Result<Mask, Refusal>
     gather::mask_of(blocks, |i| read_block(bytes, i))
 }
 
-// The first `count` blocks, whose sets and bounds the three slices hold, as a mask, or the first check that fails: 7 and 8.
-pub fn check_blocks(
-    bases: &[u64],
-    lowers: &[u16],
-    uppers: &[u16],
-    count: usize,
-) -> Result<Mask, Refusal>
-    requires { (count ≤ 1024) × Enough bases.now lowers.now uppers.now count }
-    ensures { result ≡ read_blocks (blocks_of bases.now lowers.now uppers.now count) }
+// Blocks as a mask, or the first check that fails: 7 and 8.
+pub fn check_blocks(blocks: &[Block]) -> Result<Mask, Refusal>
+    requires { length blocks.now ≤ 1024 }
+    ensures { result ≡ read_blocks blocks.now }
 {
-    gather::mask_of(
-        count,
-        |i| Block {
-            base: bases[i],
-            lower: lowers[i],
-            upper: uppers[i],
-        },
-    )
+    gather::mask_of(blocks.len(), |i| blocks[i])
 }
 
 // The state that state `q` moves to by letter `c`: `states`, the dead state, where the move names none.
@@ -129,24 +117,14 @@ pub fn read_block(bytes: &[u8], i: usize) -> Block
     blocks::block_from(bytes, 6 + 12 * i)
 }
 
-// Copies the sets and the bounds of a mask's blocks into the first entries of three slices.
-pub fn read_blocks(
-    bytes: &[u8],
-    blocks: usize,
-    bases: &mut [u64],
-    lowers: &mut [u16],
-    uppers: &mut [u16],
-)
-    requires blocks_value { (blocks ≡ count bytes.now) × (6 + 12 * blocks ≤ length bytes.now) }
-    requires enough { Enough bases.old lowers.old uppers.old blocks }
-    ensures { let copied = blocks_of bases.new lowers.new uppers.new blocks in
-        copied ≡ mask_of bytes.now }
+// Copies a mask's blocks into a slice of as many.
+pub fn read_blocks(bytes: &[u8], blocks: &mut [Block])
+    requires same_count { length blocks.old ≡ count bytes.now }
+    requires whole { 6 + 12 * count bytes.now ≤ length bytes.now }
+    ensures { blocks.new ≡ mask_of bytes.now }
 {
-    for i in 0..blocks {
-        let block = read_block(bytes, i);
-        bases[i] = block.base;
-        lowers[i] = block.lower;
-        uppers[i] = block.upper;
+    for i in 0..blocks.len() {
+        blocks[i] = read_block(bytes, i);
     }
 }
 
@@ -157,24 +135,17 @@ pub fn some_foreign(mask: Mask, letters: usize) -> bool
     bitset::some_from(mask.used, letters)
 }
 
-// Writes the first `count` blocks, whose sets and bounds the three slices hold, as a kind 2 record over the first bytes of
-// `out`, and returns how many bytes that is. The blocks go into the part behind the six head bytes.
-pub fn write_mask(
-    bases: &[u64],
-    lowers: &[u16],
-    uppers: &[u16],
-    count: usize,
-    out: &mut [u8],
-) -> usize
-    requires enough { Enough bases.now lowers.now uppers.now count }
-    requires count_in_bounds { 6 + 12 * count ≤ length out.old }
-    ensures { let written = mask_bytes (blocks_of bases.now lowers.now uppers.now count) in
-        (result ≡ 6 + 12 * count) × (out.new ≡ over written out.old) }
+// Writes blocks as a kind 2 record over the first bytes of `out`, and returns how many bytes that is. They go into the part
+// behind the six head bytes.
+pub fn write_mask(blocks: &[Block], out: &mut [u8]) -> usize
+    requires { 6 + 12 * length blocks.now ≤ length out.old }
+    ensures size { result ≡ 6 + 12 * length blocks.now }
+    ensures written { out.new ≡ over (mask_bytes blocks.now) out.old }
 {
-    let size = 6 + 12 * count;
+    let size = 6 + 12 * blocks.len();
     number::write(out, 0, 2, size as u64);
     number::write(out, 2, 2, 2);
-    number::write(out, 4, 2, count as u64);
-    writer::write_blocks(bases, lowers, uppers, count, &mut out[6..]);
+    number::write(out, 4, 2, blocks.len() as u64);
+    writer::write_blocks(blocks, &mut out[6..]);
     size
 }

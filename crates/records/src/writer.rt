@@ -2,7 +2,7 @@
 ghost use Rattle.std.specs.Prelude.{◌≡◌, ◌+◌, ◌*◌, ◌≤◌, length};
 ghost use Rattle.std.proofs.lemmas.List.Edits.{sets};
 ghost use Rattle.records.specs.Bytes.{over};
-ghost use Rattle.records.specs.Written.{block_bytes, blocks_bytes, blocks_of, Enough};
+ghost use Rattle.records.specs.Written.{block_bytes, blocks_bytes};
 
 use crate::number;
 use model::Block;
@@ -17,25 +17,12 @@ fn write_block(out: &mut [u8], at: usize, block: Block)
     number::write(out, at + 10, 2, block.upper as u64);
 }
 
-// Writes the first `count` blocks, whose sets and bounds the three slices hold, over the first bytes of `out`.
-pub(crate) fn write_blocks(
-    bases: &[u64],
-    lowers: &[u16],
-    uppers: &[u16],
-    count: usize,
-    out: &mut [u8],
-)
-    requires enough { Enough bases.now lowers.now uppers.now count }
-    requires count_in_bounds { 12 * count ≤ length out.old }
-    ensures { let written = blocks_bytes (blocks_of bases.now lowers.now uppers.now count) in
-        out.new ≡ over written out.old }
+// Writes blocks over the first bytes of `out`.
+pub(crate) fn write_blocks(blocks: &[Block], out: &mut [u8])
+    requires { 12 * length blocks.now ≤ length out.old }
+    ensures { out.new ≡ over (blocks_bytes blocks.now) out.old }
 {
-    for i in 0..count {
-        let block = Block {
-            base: bases[i],
-            lower: lowers[i],
-            upper: uppers[i],
-        };
-        write_block(out, 12 * i, block);
+    for i in 0..blocks.len() {
+        write_block(out, 12 * i, blocks[i]);
     }
 }
