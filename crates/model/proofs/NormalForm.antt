@@ -69,7 +69,7 @@ pub idle_positive : (x : Block) → ¬ T (idle x) → 0 < x.upper
 idle_positive x i = let h : ¬ (x.upper ≡ 0) = λ u. i ((idle_iff x).1 (inl u)) in omega arith
 
 -- where two joined blocks are idle, the first is
-idle_merged : (x y : Block) → T (idle (merged x y)) → T (idle x)
+pub idle_merged : (x y : Block) → T (idle (merged x y)) → T (idle x)
 idle_merged x y i = (idle_iff x).1 (⊎_map (λ u. omega arith) (λ (s, l). (s, omega arith)) ((idle_iff (merged x y)).0 i))
 
 -- a word with the letters and the length that a block asks for is a piece of it

@@ -8,6 +8,9 @@ ghost use Rattle.model.specs.Size.{Room};
 ghost use Rattle.model.specs.NormalForm.{idle, normal};
 ghost use Rattle.normal_form.specs.Pushed.{Pushed};
 
+mod joiner;
+
+pub use joiner::Joiner;
 use model::Block;
 
 // Makes the normal form of the blocks, from the last to the first. It stands at their end: from the entry whose number is
@@ -46,7 +49,7 @@ fn push(blocks: &mut [Block], i: usize, at: usize) -> usize
 }
 
 // Whether a block is dropped: u = 0, or an empty set and l = 0.
-fn idle(block: Block) -> bool
+pub(crate) fn idle(block: Block) -> bool
     ensures { result ≡ idle block }
 {
     block.upper == 0 || block.base == 0 && block.lower == 0
