@@ -3,24 +3,28 @@
 #![tactic(auto)]
 
 ghost use Rattle.std.specs.Prelude.{◌≡◌, ◌+◌, ◌*◌, ◌<◌, ◌≤◌, length};
+ghost use Rattle.std.proofs.lemmas.List.Edits.{sets};
 ghost use Rattle.model.specs.Set.{some_from};
 ghost use Rattle.model.specs.DashedString.{block_at};
 ghost use Rattle.model.specs.Automaton.{next};
 ghost use Rattle.records.specs.Bytes.{over};
 ghost use Rattle.records.specs.Book.{table_of, read_book};
 ghost use Rattle.records.specs.Mask.{count, mask_of, read_mask, read_blocks};
-ghost use Rattle.records.specs.Written.{mask_bytes};
+ghost use Rattle.records.specs.Written.{head_bytes, mask_bytes};
 
 mod automaton;
-mod blocks;
+mod block;
 mod frame;
 mod gather;
+mod iter;
 mod moves;
 mod number;
 mod writer;
 
 pub use frame::length_field;
+pub use iter::Blocks;
 use model::{Block, Refusal};
+pub use writer::write_block;
 
 // The numbers of a kind 1 record (a book): n, m, the start and the accepting states. Its moves stay in the slice.
 #[derive(Clone, Copy)]
@@ -114,7 +118,15 @@ pub fn read_block(bytes: &[u8], i: usize) -> Block
     requires { (i < count bytes.now) × (6 + 12 * count bytes.now ≤ length bytes.now) }
     ensures { result ≡ block_at (mask_of bytes.now) i }
 {
-    blocks::block_from(bytes, 6 + 12 * i)
+    block::block_from(bytes, 6 + 12 * i)
+}
+
+// The blocks of a mask, from the first on.
+pub fn blocks<'a>(bytes: &'a [u8]) -> Blocks<'a>
+    requires { 6 + 12 * count bytes.now ≤ length bytes.now }
+    ensures { result ≡ mask_of bytes.now }
+{
+    Blocks::of(bytes)
 }
 
 // Copies a mask's blocks into a slice of as many.
@@ -135,6 +147,16 @@ pub fn some_foreign(mask: Mask, letters: usize) -> bool
     bitset::some_from(mask.used, letters)
 }
 
+// Writes the six head bytes of a mask of `count` blocks over the first bytes of `out`.
+pub fn write_head(count: usize, out: &mut [u8])
+    requires { 6 + 12 * count ≤ length out.old }
+    ensures { out.new ≡ sets out.old 0 (head_bytes count) }
+{
+    number::write(out, 0, 2, (6 + 12 * count) as u64);
+    number::write(out, 2, 2, 2);
+    number::write(out, 4, 2, count as u64);
+}
+
 // Writes blocks as a kind 2 record over the first bytes of `out`, and returns how many bytes that is. They go into the part
 // behind the six head bytes.
 pub fn write_mask(blocks: &[Block], out: &mut [u8]) -> usize
@@ -142,10 +164,7 @@ pub fn write_mask(blocks: &[Block], out: &mut [u8]) -> usize
     ensures size { result ≡ 6 + 12 * length blocks.now }
     ensures written { out.new ≡ over (mask_bytes blocks.now) out.old }
 {
-    let size = 6 + 12 * blocks.len();
-    number::write(out, 0, 2, size as u64);
-    number::write(out, 2, 2, 2);
-    number::write(out, 4, 2, blocks.len() as u64);
+    write_head(blocks.len(), out);
     writer::write_blocks(blocks, &mut out[6..]);
-    size
+    6 + 12 * blocks.len()
 }

@@ -8,7 +8,7 @@ use crate::number;
 use model::Block;
 
 // Writes the 12 bytes of a block from byte `at` on.
-fn write_block(out: &mut [u8], at: usize, block: Block)
+pub fn write_block(out: &mut [u8], at: usize, block: Block)
     requires { at + 12 ≤ length out.old }
     ensures { out.new ≡ sets out.old at (block_bytes block) }
 {
