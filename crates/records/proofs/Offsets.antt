@@ -1,6 +1,6 @@
 -- The blocks of a record: how many there are, and which bytes block j is.
 -- Assumes nothing.
-use Rattle.std.proofs.Common.{◌≡◌, ℕ, zero, suc, ◌+◌, ◌-◌, ◌*◌, ◌<◌, ◌≤◌, List, [], ◌∷◌, length, refl, ap, arith}
+use Rattle.std.proofs.Common.{◌≡◌, ℕ, zero, suc, ◌+◌, ◌*◌, ◌<◌, List, length, refl, ap, arith}
 use Rattle.model.specs.DashedString.{block_at}
 use Rattle.records.specs.Mask.{count, block_from, blocks_from, mask_of}
 
@@ -21,15 +21,3 @@ unfolding blocks_from
 block_at_lem zero bs i j h = absurd (omega arith)
 block_at_lem (suc k) bs i zero h = ap (block_from bs) (omega arith)
 block_at_lem (suc k) bs i (suc j) h = rw (block_at_lem k bs (i + 12) j (omega arith)) (ap (block_from bs) (omega arith))
-
--- the first block of some, and the rest
-pub first_block : (bs : List ℕ) (at left : ℕ) → 0 < left → blocks_from left bs at ≡ block_from bs at ∷ blocks_from (left - 1) bs (at + 12)
-unfolding blocks_from
-first_block bs at zero h = absurd (omega arith)
-first_block bs at (suc left) h = let e : suc left - 1 ≡ left = omega arith in rw e
-
--- no block of none
-pub no_block : (bs : List ℕ) (at left : ℕ) → left ≤ 0 → blocks_from left bs at ≡ []
-unfolding blocks_from
-no_block bs at zero h = refl
-no_block bs at (suc left) h = absurd (omega arith)
