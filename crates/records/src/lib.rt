@@ -68,7 +68,7 @@ pub fn read_book(bytes: &[u8]) -> Result<Book, Refusal>
 }
 
 // A slice as a mask, or the first mask check that fails.
-#[tactic(auto, using(crate::proofs::Checks::framing, crate::proofs::Offsets::blocks_counted), unfolding(model::specs::Refusal::refuse, crate::specs::Mask::read_mask, crate::specs::Mask::mask_refusal, crate::specs::Mask::read_blocks))]
+#[tactic(auto, using(crate::proofs::Checks::framing, crate::proofs::Copies::record_values), unfolding(model::specs::Refusal::refuse, crate::specs::Mask::read_mask, crate::specs::Mask::mask_refusal, crate::specs::Mask::read_blocks))]
 pub fn read_mask(bytes: &[u8]) -> Result<Mask, Refusal>
     ensures { result ≡ read_mask bytes.now }
 {
@@ -122,6 +122,7 @@ pub fn next_state(states: usize, letters: usize, moves: &[u8], q: usize, c: usiz
 }
 
 // Block `i` of a mask, from 0.
+#[tactic(auto, using(crate::proofs::Offsets::block_at_lem), unfolding(crate::specs::Mask::mask_of))]
 pub fn read_block(bytes: &[u8], i: usize) -> Block
     requires { (i < count bytes.now) × (6 + 12 * count bytes.now ≤ length bytes.now) }
     ensures { result ≡ block_at (mask_of bytes.now) i }
@@ -130,6 +131,7 @@ pub fn read_block(bytes: &[u8], i: usize) -> Block
 }
 
 // Copies the sets and the bounds of a mask's blocks into the first entries of three slices.
+#[tactic(auto, using(crate::proofs::Copies::copied_mask))]
 pub fn read_blocks(
     bytes: &[u8],
     blocks: usize,
@@ -159,6 +161,7 @@ pub fn some_foreign(mask: Mask, letters: usize) -> bool
 
 // Writes the first `count` blocks, whose sets and bounds the three slices hold, as a kind 2 record over the first bytes of
 // `out`, and returns how many bytes that is. The blocks go into the part behind the six head bytes.
+#[tactic(auto, using(crate::proofs::Stores::three_stored, crate::proofs::Stores::mask_stored), unfolding(crate::specs::Written::head_bytes))]
 pub fn write_mask(
     bases: &[u64],
     lowers: &[u16],

@@ -8,6 +8,7 @@ use crate::number;
 use model::Block;
 
 // Writes the 12 bytes of a block from byte `at` on.
+#[tactic(auto, using(crate::proofs::Stores::three_stored), unfolding(crate::specs::Written::block_bytes))]
 fn write_block(out: &mut [u8], at: usize, block: Block)
     requires { at + 12 ≤ length out.old }
     ensures { out.new ≡ sets out.old at (block_bytes block) }
@@ -18,6 +19,7 @@ fn write_block(out: &mut [u8], at: usize, block: Block)
 }
 
 // Writes the first `count` blocks, whose sets and bounds the three slices hold, over the first bytes of `out`.
+#[tactic(auto, using(crate::proofs::Stores::stored_more, crate::proofs::Stores::stored_all), unfolding(crate::specs::Written::blocks_bytes))]
 pub(crate) fn write_blocks(
     bases: &[u64],
     lowers: &[u16],

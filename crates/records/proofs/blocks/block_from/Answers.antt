@@ -1,7 +1,0 @@
--- `records::blocks::block_from` meets its contract.
-use Rattle.records.specs.Mask.{block_from}
-use Rattle.records.proofs.blocks.block_from.Goals as goal
-
-pub returns : goal.returns
-unfolding block_from
-returns c = cc
