@@ -68,7 +68,7 @@ pub fn read_book(bytes: &[u8]) -> Result<Book, Refusal>
 }
 
 // A slice as a mask, or the first mask check that fails.
-#[tactic(auto, using(crate::proofs::Checks::framing, crate::proofs::Copies::record_values), unfolding(model::specs::Refusal::refuse, crate::specs::Mask::read_mask, crate::specs::Mask::mask_refusal, crate::specs::Mask::read_blocks))]
+#[tactic(auto, using(crate::proofs::Checks::framing), unfolding(model::specs::Refusal::refuse, crate::specs::Mask::read_mask, crate::specs::Mask::mask_refusal))]
 pub fn read_mask(bytes: &[u8]) -> Result<Mask, Refusal>
     ensures { result ≡ read_mask bytes.now }
 {

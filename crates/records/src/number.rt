@@ -4,7 +4,6 @@ ghost use Rattle.std.proofs.lemmas.List.Edits.{sets};
 ghost use Rattle.records.specs.Bytes.{number_at, bytes_of};
 
 // The number in the `width` bytes from byte `at` on.
-#[tactic(auto, using(crate::proofs::Words::word_read, crate::proofs::Numbers::number_lt))]
 pub(crate) fn read(bytes: &[u8], at: usize, width: usize) -> u64
     requires { (width ≤ 8) × (at + width ≤ length bytes.now) }
     ensures { (result ≡ number_at width bytes.now at) × (result < 256 ^ width) }
