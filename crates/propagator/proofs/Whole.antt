@@ -21,7 +21,7 @@ use Rattle.propagator.proofs.Remembered.{unwritten, cleared}
 use Rattle.propagator.proofs.Rows.{entering_last, list_whole}
 
 -- the slice has as many elements as before
-pub none_size : (known : List ℕ) (B : ℕ) → length (set (set (set known 64 0) 130 0) 132 B) ≡ length known
+none_size : (known : List ℕ) (B : ℕ) → length (set (set (set known 64 0) 130 0) 132 B) ≡ length known
 none_size known B = length-set (set (set known 64 0) 130 0) 132 B ∙ length-set (set known 64 0) 130 0 ∙ length-set known 64 0
 
 -- nothing is known yet, but where moves lead

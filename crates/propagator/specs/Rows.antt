@@ -40,10 +40,6 @@ Inside E Q = (q : ℕ) → Member q E → Member q Q
 abbrev pub Keeps : List ℕ → List ℕ → ℕ → Type 0
 Keeps old new at = (j : ℕ) → j < at → get_or new j 0 ≡ get_or old j 0
 
--- the elements from at up to end are the set S
-abbrev pub Same : List ℕ → ℕ → ℕ → ℕ → Type 0
-Same sets at end S = (j : ℕ) → at ≤ j → j < end → get_or sets j 0 ≡ S
-
 -- Q1 to Ql of a block, l sets, from element at on
 abbrev pub Places : Table → ℕ → ℕ → ℕ → List ℕ → ℕ → Type 0
 Places t S Q l sets at = (j : ℕ) → j < l → get_or sets (at + j) 0 ≡ exactly t S Q (suc j)

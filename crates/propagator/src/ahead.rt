@@ -72,6 +72,7 @@ fn reached(shape: Shape, moves: &[u8], base: u64, known: &mut [u64], from: u64, 
 }
 
 // One block: stores its Q1 to Ql from element `at` on, where `from` is its Q0; returns its R.
+#[tactic(auto, using(crate::proofs::Forth::block_passed))]
 fn pass_block(
     shape: Shape,
     moves: &[u8],

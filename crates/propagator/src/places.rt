@@ -62,7 +62,7 @@ pub(crate) fn narrow_places(
     at: usize,
     count: usize,
     end: u64,
-    last: Option<Kept>,
+    mut last: Option<Kept>,
     bases: &mut [u64],
     lowers: &mut [u16],
     uppers: &mut [u16],
@@ -77,7 +77,6 @@ pub(crate) fn narrow_places(
         (entries_to (table shape moves.now) end first (replicate count (mandatory base)))
         bases.new lowers.new uppers.new }
 {
-    let mut last = last;
     let mut states = end;
     for j in (0..count).rev() {
         let before = set_before(first, sets, at, j);

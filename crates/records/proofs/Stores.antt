@@ -1,9 +1,11 @@
 -- Runs of stores, and what the loop over the blocks of a mask has written.
 -- Assumes nothing.
-use Rattle.std.proofs.Common.{◌≡◌, ℕ, zero, suc, ◌+◌, ◌-◌, ◌*◌, ◌<◌, ◌≤◌, List, [], ◌∷◌, ◌++◌, length, take, drop, set, refl, ap, ◌∙◌, append_assoc, append-nil, add-zero, zero-add, add-one, arith, length-append}
-use lib.Seq.{sets, sets-eq, length-sets}
+use Rattle.std.proofs.Common.{◌≡◌, ℕ, zero, suc, ◌+◌, ◌-◌, ◌*◌, ◌≤◌, List, [], ◌∷◌, ◌++◌, length, take, drop, set, refl, ap, ◌∙◌, append_assoc, append-nil, add-zero, zero-add, add-one, arith, length-append, ◌<◌, take_all}
+use lib.Seq.{sets, sets-eq}
 use Rattle.model.specs.declared.Block.{Block}
-use Rattle.model.specs.DashedString.{values}
+use lib.Seq.{take-suc}
+use Rattle.std.proofs.lemmas.List.{length-take-le}
+use Rattle.model.specs.DashedString.{block, block_at, values}
 use Rattle.records.specs.Bytes.{bytes_of, over}
 use Rattle.records.specs.Written.{block_bytes, blocks_bytes, head_bytes, mask_bytes}
 use Rattle.records.proofs.Numbers.{length_bytes}
@@ -44,36 +46,20 @@ unfolding blocks_bytes
 blocks_more [] x = append-nil (block_bytes x)
 blocks_more (y ∷ xs) x = rw (blocks_more xs x, append_assoc)
 
--- writing blocks: the first i are written
-pub record Filling (f : ℕ → Block) (count : ℕ) (old out : List ℕ) (i : ℕ) : Type 0 where
-  pub within : i ≤ count
-  pub size : length out ≡ length old
-  pub stored : out ≡ sets old 0 (blocks_bytes (values f i))
+-- the first i blocks are stored from byte 0 on, and one block behind them
+pub stored_more : (xs : List Block) (old out next : List ℕ) (i : ℕ) → i < length xs → out ≡ sets old 0 (blocks_bytes (take i xs))
+    → next ≡ sets out (12 * i) (block_bytes (block_at xs i)) → next ≡ sets old 0 (blocks_bytes (take (i + 1) xs))
+stored_more xs old out next i h stored e =
+    let here : 12 * i ≡ 0 + length (blocks_bytes (take i xs)) = omega (arith, length_blocks_bytes (take i xs), length-take-le i xs (omega arith)) in
+    let more : blocks_bytes (take (i + 1) xs) ≡ blocks_bytes (take i xs) ++ block_bytes (block_at xs i)
+    = rw (add-one i, take-suc xs i (block 0 0 0) h) (blocks_more (take i xs) (block_at xs i)) in
+    rw (e, stored, here, sets_append, more)
 
--- none is written yet
-pub filling_starts : (f : ℕ → Block) (count : ℕ) (old : List ℕ) → Filling f count old old 0
-unfolding blocks_bytes
-filling_starts f count old = record { within = omega arith; size = refl; stored = refl }
-
-module _ (f : ℕ → Block) (count : ℕ) (old out : List ℕ) (i : ℕ) (filling : Filling f count old out i) where
-  -- one block more
-  pub filling_more : (next : List ℕ) → i < count → next ≡ sets out (12 * i) (block_bytes (f i)) → Filling f count old next (i + 1)
-  filling_more next h e =
-      let here : 12 * i ≡ 0 + length (blocks_bytes (values f i)) = omega (arith, length_blocks_bytes (values f i), length_values f i) in
-      let more : blocks_bytes (values f (i + 1)) ≡ blocks_bytes (values f i) ++ block_bytes (f i)
-      = rw (add-one i) (ap blocks_bytes (values_more f i) ∙ blocks_more (values f i) (f i)) in
-      record {
-        within = omega arith;
-        size = rw (e, length-sets) filling.size;
-        stored = rw (e, filling.stored, here, sets_append, more);
-      }
-
-  -- all are written
-  pub filling_ends : count ≤ i → 12 * count ≤ length old → out ≡ over (blocks_bytes (values f count)) old
-  filling_ends h l =
-      let all : i ≡ count = omega arith in
-      let fits : length (blocks_bytes (values f count)) ≤ length old = omega (arith, length_blocks_bytes (values f count), length_values f count) in
-      rw (filling.stored, all) (sets_over (blocks_bytes (values f count)) old fits)
+-- all are stored
+pub stored_all : (xs : List Block) (old out : List ℕ) (i : ℕ) → 12 * length xs ≤ length old → length xs ≤ i
+    → out ≡ sets old 0 (blocks_bytes (take i xs)) → out ≡ over (blocks_bytes xs) old
+stored_all xs old out i l h e =
+    rw (take_all i xs h) at e ∙ sets_over (blocks_bytes xs) old (omega (arith, length_blocks_bytes xs))
 
 -- the head is written, then the blocks behind it, in the part from byte 6 on: the whole mask is
 pub mask_stored : (xs : List Block) (old head part : List ℕ) → 6 + 12 * length xs ≤ length old → head ≡ sets old 0 (head_bytes (length xs))

@@ -1,8 +1,8 @@
 -- What the loop over the moves of a book keeps from turn to turn.
 -- Assumes nothing.
-use Rattle.std.proofs.Common.{◌≡◌, ℕ, ◌+◌, ◌%◌, ◌^◌, ◌<◌, ◌≤◌, Bool, true, false, not, ◌&&◌, ◌||◌, eqb, ltb, leb, max, List, length, get_or, take, drop, sym, refl, ◌∙◌, add-one, arith, drop_of_length-le, drop-cons, ltb-false, ltb-true, le-ltb, lt-ltb, eqb-true, leb-false, leb-true}
-use mathlib.Core.Bool.{and-false, or-true, or-false}
-use borrow.Author.Tests.{eqb-false}
+use Rattle.std.proofs.Common.{◌≡◌, ℕ, ◌+◌, ◌%◌, ◌^◌, ◌<◌, ◌≤◌, Bool, true, false, ◌||◌, ltb, max, List, length, get_or, take, drop, sym, refl, ◌∙◌, add-one, arith, drop_of_length-le, drop-cons, ltb-false, ltb-true, le-ltb, lt-ltb}
+use mathlib.Core.Bool.{or-true, or-false}
+use Rattle.std.proofs.lemmas.Bool.Decides.{nat_tests}
 use lib.Seq.{take-suc}
 use Rattle.records.specs.Check.{some}
 use Rattle.records.specs.Book.{stray}
@@ -60,21 +60,11 @@ module _ (p : ℕ → Bool) (l : List ℕ) (i n most y : ℕ) (passing : Passing
 
 -- a move that names no state and isn't 255 is one that is above n with 1 added
 pub stray_above : (n x : ℕ) → x < 2 ^ 8 → stray n x ≡ ltb n ((x + 1) % 2 ^ 8)
-stray_above n x h = go (eqb x 255) refl (leb n x) refl
-  where
-    go : (u : Bool) → eqb x 255 ≡ u → (v : Bool) → leb n x ≡ v → (v && not u) ≡ ltb n ((x + 1) % 2 ^ 8)
-    go true e v d = and-false v ∙ sym (le-ltb n ((x + 1) % 2 ^ 8) (omega (arith, eqb-true x 255 e)))
-    go false e true d = sym (lt-ltb n ((x + 1) % 2 ^ 8) (omega (arith, leb-true n x d, eqb-false x 255 e)))
-    go false e false d = sym (le-ltb n ((x + 1) % 2 ^ 8) (omega (arith, leb-false n x d, eqb-false x 255 e)))
+stray_above n x h = grind (arith, nat_tests)
 
 -- the greater of two numbers is above n where one of them is
 above_max : (n a b : ℕ) → ltb n (max a b) ≡ (ltb n b || ltb n a)
-above_max n a b = go (ltb n a) refl (ltb n b) refl
-  where
-    go : (u : Bool) → ltb n a ≡ u → (v : Bool) → ltb n b ≡ v → ltb n (max a b) ≡ (v || u)
-    go u d true e = lt-ltb n (max a b) (omega (arith, ltb-true n b e))
-    go true d false e = lt-ltb n (max a b) (omega (arith, ltb-true n a d))
-    go false d false e = le-ltb n (max a b) (omega (arith, ltb-false n a d, ltb-false n b e))
+above_max n a b = grind (arith, nat_tests)
 
 -- the greatest of the numbers y so far is above n where some element so far passes, and so with one element more
 pub most_passes : (p : ℕ → Bool) (l : List ℕ) (i n most y : ℕ) → i < length l → ltb n most ≡ some p (take i l) → p (get_or l i 0) ≡ ltb n y

@@ -1,9 +1,9 @@
 -- What the checks leave: a sound automaton, and a mask that fits a record (01, "The four operations"). Nothing else is refused.
 -- Assumes nothing.
-use Rattle.std.proofs.Common.{◌≡◌, ℕ, zero, suc, ◌+◌, ◌*◌, ◌^◌, ◌<◌, ◌≤◌, Bool, true, false, not, ◌&&◌, ◌||◌, eqb, leb, ◌⊎◌, ◌↔◌, List, [], ◌∷◌, length, refl, ◌∙◌, inl, inr, ⊎_elim, arith, length-drop, ltb-false, le-ltb, eq-eqb, ne_eqb, eqb-true, leb-false}
-use borrow.Author.Tests.{lt-leb, not-false}
+use Rattle.std.proofs.Common.{◌≡◌, ℕ, zero, suc, ◌+◌, ◌*◌, ◌^◌, ◌<◌, ◌≤◌, true, false, ◌⊎◌, ◌↔◌, List, [], ◌∷◌, length, arith, length-drop, le-ltb, ne_eqb}
+use Rattle.std.proofs.lemmas.Bool.Decides.{nat_tests}
 use Rattle.model.specs.declared.Block.{Block}
-use Rattle.model.specs.Refusal.{accepted}
+use Rattle.model.specs.Refusal.{accepted, refuse}
 use Rattle.model.specs.Set.{Member, some_from}
 use Rattle.model.specs.DashedString.{block_at, Each, Bounded}
 use Rattle.model.specs.Automaton.{Dfa}
@@ -12,12 +12,12 @@ use Rattle.model.specs.Size.{uppers, WellFormed, Fits}
 use Rattle.records.specs.declared.Book.{Book}
 use Rattle.records.specs.Bytes.{Bytes}
 use Rattle.records.specs.Check.{some, length_field, kind, unframed}
-use Rattle.records.specs.Book.{book_head, moves_of, book_of, stray, unnamed, book_checks, book_refusal}
+use Rattle.records.specs.Book.{book_head, moves_of, out_of_range, book_of, stray, unnamed, book_checks, book_refusal}
 use Rattle.records.specs.Mask.{count, block_from, blocks_from, mask_of, crossed, blocks_refusal, mask_refusal, beyond, foreign}
 use Rattle.records.specs.WellFormed.{Sound, BookRecord, MaskRecord}
 use Rattle.records.proofs.Numbers.{number_lt}
 use Rattle.records.proofs.Offsets.{blocks_counted}
-use Rattle.records.proofs.Checks.{peel, off, is, past_three, neither, framing, in_range, none_from, none_each, none_at, each_map}
+use Rattle.records.proofs.Checks.{framing, in_range, none_from, none_each, none_at, each_map}
 
 -- a slice of more than 65,535 bytes is refused by check 1: no length field says so much
 pub too_long : (bs : List ℕ) → Bytes bs → 65535 < length bs → unframed bs ≡ true
@@ -29,47 +29,31 @@ too_long bs h l =
 
 -- a move that isn't stray names a state, or is 255
 named : (n r : ℕ) → (stray n r ≡ false) ↔ ((r < n) ⊎ (r ≡ 255))
-named n r = (λ e. go (leb n r) refl e, λ h. ⊎_elim (λ l. rw (lt-leb n r l)) (λ e. rw (eq-eqb r 255 e) (off (leb n r))) h)
-  where
-    go : (t : Bool) → leb n r ≡ t → t && not (eqb r 255) ≡ false → (r < n) ⊎ (r ≡ 255)
-    go true a b = inr (eqb-true r 255 (not-false (eqb r 255) b))
-    go false a b = inl (leb-false n r a)
-
-    off : (t : Bool) → t && false ≡ false
-    off true = refl
-    off false = refl
+named n r = grind (arith, nat_tests)
 
 -- check 6 leaves exactly these
 naming : (b : Book) (moves : List ℕ) → (unnamed b moves ≡ false)
-    ↔ (((leb b.states b.start ≡ false) × (some_from b.accepting b.states ≡ false)) × (some (stray b.states) moves ≡ false))
+    ↔ ((b.start < b.states) × (some_from b.accepting b.states ≡ false) × (some (stray b.states) moves ≡ false))
 unfolding unnamed
-naming b moves = (λ e. let (h, k) = outer.0 e in (inner.0 h, k), λ (h, k). outer.1 (inner.1 h, k))
-  where
-    inner : (leb b.states b.start || some_from b.accepting b.states ≡ false)
-        ↔ ((leb b.states b.start ≡ false) × (some_from b.accepting b.states ≡ false))
-    inner = neither (leb b.states b.start) (some_from b.accepting b.states)
+naming b moves = grind (arith, nat_tests)
 
-    outer : (unnamed b moves ≡ false)
-        ↔ ((leb b.states b.start || some_from b.accepting b.states ≡ false) × (some (stray b.states) moves ≡ false))
-    outer = neither (leb b.states b.start || some_from b.accepting b.states) (some (stray b.states) moves)
+-- and so do all book checks
+book_passes : (bs : List ℕ) (b : Book) → (book_checks bs b ≡ accepted)
+    ↔ ((unframed bs ≡ false) × (kind bs ≡ 1) × (15 ≤ length bs) × (out_of_range b ≡ false) × (length bs ≡ 15 + b.states * b.letters) × (unnamed b (moves_of bs) ≡ false))
+unfolding refuse book_checks
+book_passes bs b = grind (arith, nat_tests)
 
 -- what is not refused as a book is a well-formed record
 pub book_record : (bs : List ℕ) → book_refusal bs ≡ accepted → BookRecord bs
-unfolding moves_of book_checks
+unfolding moves_of
 book_record bs h =
     let b = book_head bs in
-    let (frame, h) = peel _ _ _ h in
-    let (one, h) = peel _ _ _ h in
-    let (_, h) = peel _ _ _ h in
-    let (range, h) = peel _ _ _ h in
-    let (exact, h) = peel _ _ _ h in
-    let (names, _) = peel _ _ _ h in
+    let (frame, one, _, range, size, names) = (book_passes bs b).0 h in
     let (n, m) = (in_range b).0 range in
-    let ((start, accepting), moves) = (naming b (moves_of bs)).0 names in
-    let size = eqb-true (length bs) (15 + b.states * b.letters) (not-false _ exact) in
+    let (start, accepting, moves) = (naming b (moves_of bs)).0 names in
     record {
       framed = ((framing bs).0 frame).1;
-      kind = eqb-true (kind bs) 1 (not-false _ one);
+      kind = one;
       size = size;
       sound = record {
         some_state = n.0;
@@ -77,7 +61,7 @@ book_record bs h =
         some_letter = m.0;
         letters = m.1;
         moves = omega (arith, length-drop 15 bs, size);
-        start = leb-false b.states b.start start;
+        start = start;
         accepting = (none_from b.accepting b.states).0 accepting;
         named = λ i l. (named b.states _).0 ((none_at (stray b.states) (moves_of bs)).0 moves i l);
       };
@@ -85,19 +69,15 @@ book_record bs h =
 
 -- and no well-formed record is refused
 pub record_book : (bs : List ℕ) → BookRecord bs → book_refusal bs ≡ accepted
-unfolding moves_of book_checks
+unfolding moves_of
 record_book bs t =
     let b = book_head bs in
     let s = t.sound in
-    let long : 15 ≤ length bs = omega (arith, t.size) in
+    let frame = (framing bs).1 (omega (arith, t.size), t.framed) in
     let range = (in_range b).1 ((s.some_state, omega (arith, s.states)), (s.some_letter, s.letters)) in
     let bits = (none_from b.accepting b.states).1 s.accepting in
     let moves = (none_at (stray b.states) (moves_of bs)).1 (λ i l. (named b.states _).1 (s.named i l)) in
-    let names = (naming b (moves_of bs)).1 ((lt-leb b.states b.start s.start, bits), moves) in
-    past_three bs 1 15 _ ((framing bs).1 (omega arith, t.framed)) t.kind long
-    ∙ off _ _ _ range
-    ∙ off _ _ _ (is _ _ t.size)
-    ∙ off _ _ _ names
+    (book_passes bs b).1 (frame, t.kind, omega (arith, t.size), range, t.size, (naming b (moves_of bs)).1 (s.start, bits, moves))
 
 -- the dead state is not an accepting one
 pub dead_accepts_nothing : (b : Dfa) → Sound b → ¬ Member b.table.states b.accepting
@@ -107,52 +87,38 @@ dead_accepts_nothing b s m = omega (arith, s.accepting b.table.states m)
 
 -- of blocks of which none is crossed, each has l ≤ u
 uncrossed : (xs : List Block) → (some crossed xs ≡ false) ↔ Each Bounded xs
-uncrossed xs = none_each crossed Bounded (λ x. (ltb-false x.upper x.lower, le-ltb x.upper x.lower)) xs
+uncrossed xs = none_each crossed Bounded (λ x. grind (arith, nat_tests)) xs
 
--- checks 7 and 8 leave blocks with l ≤ u, and uppers that sum to at most 1,024
+-- checks 7 and 8 leave exactly the blocks with l ≤ u, and uppers that sum to at most 1,024
+blocks_pass : (xs : List Block) → (blocks_refusal xs ≡ accepted) ↔ (Each Bounded xs × (uppers xs ≤ 1024))
+unfolding refuse blocks_refusal
+blocks_pass xs = grind (arith, nat_tests, uncrossed)
+
 pub blocks_bounds : (xs : List Block) → blocks_refusal xs ≡ accepted → Each Bounded xs × (uppers xs ≤ 1024)
-unfolding blocks_refusal
-blocks_bounds xs h =
-    let (bounds, h) = peel _ _ _ h in
-    let (sum, _) = peel _ _ _ h in
-    ((uncrossed xs).0 bounds, ltb-false 1024 (uppers xs) sum)
+blocks_bounds xs h = (blocks_pass xs).0 h
 
--- and refuse no such blocks
-bounds_blocks : (xs : List Block) → Each Bounded xs → uppers xs ≤ 1024 → blocks_refusal xs ≡ accepted
-unfolding blocks_refusal
-bounds_blocks xs bounds sum = off _ _ _ ((uncrossed xs).1 bounds) ∙ off _ _ _ (le-ltb 1024 (uppers xs) sum)
+-- and so do all mask checks
+mask_passes : (bs : List ℕ) → (mask_refusal bs ≡ accepted)
+    ↔ ((unframed bs ≡ false) × (kind bs ≡ 2) × (6 ≤ length bs) × (count bs ≤ 1024) × (length bs ≡ 6 + 12 * count bs) × (blocks_refusal (mask_of bs) ≡ accepted))
+unfolding refuse mask_refusal
+mask_passes bs = grind (arith, nat_tests)
 
 -- what is not refused as a mask is a well-formed record
 pub mask_record : (bs : List ℕ) → mask_refusal bs ≡ accepted → MaskRecord bs
-unfolding mask_refusal
 mask_record bs h =
-    let (frame, h) = peel _ _ _ h in
-    let (two, h) = peel _ _ _ h in
-    let (_, h) = peel _ _ _ h in
-    let (few, h) = peel _ _ _ h in
-    let (size, h) = peel _ _ _ h in
-    let (bounds, sum) = blocks_bounds (mask_of bs) h in
-    record {
-      framed = ((framing bs).0 frame).1;
-      kind = eqb-true (kind bs) 2 (not-false _ two);
-      few = ltb-false 1024 (count bs) few;
-      size = eqb-true (length bs) (6 + 12 * count bs) (not-false _ size);
-      bounds = bounds;
-      sum = sum;
-    }
+    let (frame, two, _, few, size, blocks) = (mask_passes bs).0 h in
+    let (bounds, sum) = blocks_bounds (mask_of bs) blocks in
+    record { framed = ((framing bs).0 frame).1; kind = two; few = few; size = size; bounds = bounds; sum = sum }
 
 -- and no well-formed record is refused
 pub record_mask : (bs : List ℕ) → MaskRecord bs → mask_refusal bs ≡ accepted
-unfolding mask_refusal
 record_mask bs t =
-    past_three bs 2 6 _ ((framing bs).1 (omega arith, t.framed)) t.kind (omega arith)
-    ∙ off _ _ _ (le-ltb 1024 (count bs) t.few)
-    ∙ off _ _ _ (is _ _ t.size)
-    ∙ bounds_blocks (mask_of bs) t.bounds t.sum
+    let frame = (framing bs).1 (omega (arith, t.size), t.framed) in
+    (mask_passes bs).1 (frame, t.kind, omega (arith, t.size), t.few, t.size, (blocks_pass (mask_of bs)).1 (t.bounds, t.sum))
 
 -- so its blocks pass checks 7 and 8
 pub mask_blocks : (bs : List ℕ) → mask_refusal bs ≡ accepted → blocks_refusal (mask_of bs) ≡ accepted
-mask_blocks bs h = let t = mask_record bs h in bounds_blocks (mask_of bs) t.bounds t.sum
+mask_blocks bs h = let (_, _, _, _, _, blocks) = (mask_passes bs).0 h in blocks
 
 -- the hypotheses of demand 3, for a book that is not refused and blocks with l ≤ u
 pub checked : (bs : List ℕ) (xs : List Block) → book_refusal bs ≡ accepted → Each Bounded xs → Checked (book_of bs) xs

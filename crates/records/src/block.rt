@@ -6,6 +6,7 @@ use crate::number;
 use model::Block;
 
 // The block in the 12 bytes from byte `at` on.
+#[tactic(auto, unfolding(crate::specs::Mask::block_from))]
 pub(crate) fn block_from(bytes: &[u8], at: usize) -> Block
     requires { at + 12 ≤ length bytes.now }
     ensures { result ≡ block_from bytes.now at }

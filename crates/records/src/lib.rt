@@ -72,7 +72,7 @@ pub fn read_book(bytes: &[u8]) -> Result<Book, Refusal>
 }
 
 // A slice as a mask, or the first mask check that fails.
-#[tactic(auto, using(crate::proofs::Checks::framing, crate::proofs::Offsets::blocks_counted), unfolding(model::specs::Refusal::refuse, crate::specs::Mask::read_mask, crate::specs::Mask::mask_refusal, crate::specs::Mask::read_blocks))]
+#[tactic(auto, using(crate::proofs::Checks::framing), unfolding(model::specs::Refusal::refuse, crate::specs::Mask::read_mask, crate::specs::Mask::mask_refusal))]
 pub fn read_mask(bytes: &[u8]) -> Result<Mask, Refusal>
     ensures { result ≡ read_mask bytes.now }
 {
@@ -114,6 +114,7 @@ pub fn next_state(states: usize, letters: usize, moves: &[u8], q: usize, c: usiz
 }
 
 // Block `i` of a mask, from 0.
+#[tactic(auto, using(crate::proofs::Offsets::block_at_lem), unfolding(crate::specs::Mask::mask_of))]
 pub fn read_block(bytes: &[u8], i: usize) -> Block
     requires { (i < count bytes.now) × (6 + 12 * count bytes.now ≤ length bytes.now) }
     ensures { result ≡ block_at (mask_of bytes.now) i }
@@ -159,6 +160,7 @@ pub fn write_head(count: usize, out: &mut [u8])
 
 // Writes blocks as a kind 2 record over the first bytes of `out`, and returns how many bytes that is. They go into the part
 // behind the six head bytes.
+#[tactic(auto, using(crate::proofs::Stores::mask_stored))]
 pub fn write_mask(blocks: &[Block], out: &mut [u8]) -> usize
     requires { 6 + 12 * length blocks.now ≤ length out.old }
     ensures size { result ≡ 6 + 12 * length blocks.now }

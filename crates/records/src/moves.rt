@@ -5,6 +5,7 @@ ghost use Rattle.records.specs.Book.{stray};
 
 // Whether some move names no state, and isn't 255. What is kept is the greatest move plus 1, where 255 plus 1 is 0: the compiler
 // then takes many moves at a time.
+#[tactic(auto, using(crate::proofs::Walk::most_passes, crate::proofs::Walk::stray_above), unfolding(crate::specs::Check::some))]
 pub(crate) fn some_stray(states: usize, moves: &[u8]) -> bool
     ensures { result ≡ some (stray states) moves.now }
 {

@@ -14,6 +14,7 @@ pub(crate) fn read(bytes: &[u8], at: usize, width: usize) -> u64
 }
 
 // Writes the `width` bytes of a number from byte `at` on.
+#[tactic(auto, using(crate::proofs::Words::word_written))]
 pub(crate) fn write(out: &mut [u8], at: usize, width: usize, number: u64)
     requires { (width ≤ 8) × (at + width ≤ length out.old) }
     ensures { out.new ≡ sets out.old at (bytes_of width number) }

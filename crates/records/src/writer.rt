@@ -8,6 +8,7 @@ use crate::number;
 use model::Block;
 
 // Writes the 12 bytes of a block from byte `at` on.
+#[tactic(auto, using(crate::proofs::Stores::three_stored), unfolding(crate::specs::Written::block_bytes))]
 pub fn write_block(out: &mut [u8], at: usize, block: Block)
     requires { at + 12 ≤ length out.old }
     ensures { out.new ≡ sets out.old at (block_bytes block) }
@@ -18,6 +19,7 @@ pub fn write_block(out: &mut [u8], at: usize, block: Block)
 }
 
 // Writes blocks over the first bytes of `out`.
+#[tactic(auto, using(crate::proofs::Stores::stored_more), unfolding(crate::specs::Written::blocks_bytes))]
 pub(crate) fn write_blocks(blocks: &[Block], out: &mut [u8])
     requires { 12 * length blocks.now ≤ length out.old }
     ensures { out.new ≡ over (blocks_bytes blocks.now) out.old }

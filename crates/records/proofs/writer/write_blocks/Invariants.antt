@@ -1,7 +1,7 @@
-use Rattle.std.proofs.Common.{length}
-use Rattle.model.specs.DashedString.{block_at}
-use Rattle.records.proofs.Stores.{Filling}
+use Rattle.std.proofs.Common.{◌≡◌, take}
+use lib.Seq.{sets}
+use Rattle.records.specs.Written.{blocks_bytes}
 use Rattle.records.proofs.writer.write_blocks.Given as goal
 
 abbrev pub invariant-loop-i : goal.invariant-loop-i
-invariant-loop-i l = Filling (block_at l.blocks) (length l.blocks) l.initial.out l.out l.i
+invariant-loop-i l = l.out ≡ sets l.initial.out 0 (blocks_bytes (take l.i l.blocks))
