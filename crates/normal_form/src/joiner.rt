@@ -45,10 +45,11 @@ impl Joiner {
         }
     }
 
-    // Gives the block that it holds back, when there is no other to take.
-    pub fn end(self) -> Option<Block>
-        ensures { perhaps result [] ≡ normal (perhaps self.held []) }
+    // Gives the block that it holds back, when there is no other to take, and holds none then.
+    pub fn end(&mut self) -> Option<Block>
+        ensures made { perhaps result [] ≡ normal (perhaps self.old.held []) }
+        ensures none { self.new.held ≡ None }
     {
-        self.held
+        self.held.take()
     }
 }

@@ -2,5 +2,5 @@
 use Rattle.normal_form.proofs.Joins.{held_alone}
 use Rattle.normal_form.proofs.joiner.Joiner.end.Goals as goal
 
-pub returns : goal.returns
-returns c = held_alone _ c.args.self.kept
+pub returns-clause-made : goal.returns-clause-made
+returns-clause-made c = rw c.take.ensures.value (held_alone _ c.args.self.now.kept)
