@@ -1,7 +1,6 @@
 -- Which check decides, and what those that pass tell.
 -- Assumes nothing.
 use Rattle.std.proofs.Common.{◌≡◌, ℕ, zero, suc, ◌*◌, ◌<◌, ◌≤◌, Bool, true, false, ◌||◌, Option, Some, ◌↔◌, List, [], ◌∷◌, ◌++◌, length, get_or, refl, mul-le-mul, arith}
-use mathlib.Core.Bool.{or-false, or_assoc}
 use Rattle.std.proofs.lemmas.Bool.Decides.{nat_tests}
 use Rattle.model.specs.declared.Block.{Block}
 use Rattle.model.specs.declared.Refusal.{Refusal}
@@ -32,8 +31,8 @@ off t k r e = rw e
 -- one element more at the end
 pub some_more : {A : Type 0} (p : A → Bool) (xs : List A) (x : A) → some p (xs ++ x ∷ []) ≡ (some p xs || p x)
 unfolding some
-some_more p [] x = or-false (p x)
-some_more p (y ∷ xs) x = rw (some_more p xs x, or_assoc)
+some_more p [] x = grind arith
+some_more p (y ∷ xs) x = grind (arith, some_more p xs x)
 
 -- neither test fires
 pub neither : (a b : Bool) → (a || b ≡ false) ↔ ((a ≡ false) × (b ≡ false))
