@@ -1,21 +1,25 @@
 // A line of the input: a case, `NAME: TEXT`, or none.
-ghost use Rattle.std.specs.Prelude.{◌≢◌, ◌↔◌, ◌<◌, length, slice_index, IfOk, IsTrue};
-ghost use Rattle.case_text.specs.Split.{CaseOf};
+ghost use Rattle.std.specs.Prelude.{◌↔◌, IfOk, OnOk, IsTrue};
+ghost use Rattle.std.specs.Iterator.{IsFinite};
+ghost use Rattle.case_text.specs.Case.{IsCase, CaseOf, Ran};
 
 use crate::text;
 use std::io;
 use std::io::Write;
 
-// Runs the cases of the input, one a line, and writes a line for each: its name, and what `answer` writes of the text
-// behind the name. A line that is no case writes nothing.
-pub fn run_lines<W: Write, F: FnMut(&mut W, &[u8]) -> io::Result<()>>(
-    out: &mut W,
-    input: &[u8],
-    mut answer: F,
-) -> io::Result<()>
-    requires { F.IsAlwaysCallable answer }
+// Runs the cases among the lines, and writes a line for each: its name, and what `answer` writes of the text behind the
+// name. A line that is no case writes nothing.
+pub fn run_lines<'a, W, I, F>(out: &mut W, lines: I, mut answer: F) -> io::Result<()>
+where
+    W: Write,
+    I: Iterator<Item = &'a [u8]> + Drop,
+    F: FnMut(&mut W, &[u8]) -> io::Result<()>,
+    requires can { I.can_next lines }
+    requires finite { IsFinite (I.remaining lines) }
+    requires callable { F.IsAlwaysCallable answer }
+    ensures { OnOk result (Ran I.next_gives F.step lines answer) }
 {
-    for line in input.split(|byte| *byte == b'\n') {
+    for line in lines {
         if is_case(line) {
             let case = write_name(out, line)?;
             answer(out, case)?;
@@ -27,7 +31,7 @@ pub fn run_lines<W: Write, F: FnMut(&mut W, &[u8]) -> io::Result<()>>(
 
 // Whether a line is a case: an empty one and one that starts with `#` are none.
 pub fn is_case(line: &[u8]) -> bool
-    ensures { IsTrue result ↔ (0 < length line.now × slice_index line.now 0 ≢ 35) }
+    ensures { IsTrue result ↔ IsCase line.now }
 {
     line.first().is_some_and(|byte| *byte != b'#')
 }

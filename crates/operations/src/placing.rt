@@ -1,11 +1,11 @@
 // The entry of the narrowed list that place returns.
 ghost use Rattle.std.specs.Prelude.{true, false, ◌≡◌, ◌+◌, ◌*◌, ◌≤◌, ◌<◌, length};
+ghost use Rattle.model.specs.Refusal.{accepted};
 ghost use Rattle.model.specs.DashedString.{block_at};
 ghost use Rattle.model.specs.Place.{begins, entry_of, place as placed};
 ghost use Rattle.model.specs.Size.{lower_sum};
 ghost use Rattle.records.specs.Book.{book_of};
 ghost use Rattle.records.specs.Mask.{count, mask_of, mask_refusal};
-ghost use Rattle.operations.specs.declared.pair.PairOrRefusal.TheVariants.{Accepted};
 ghost use Rattle.operations.specs.Pair.{read_pair};
 ghost use Rattle.operations.specs.Passes.{Lent};
 ghost use Rattle.operations.specs.Placed.{missing as absent, entry_at};
@@ -19,33 +19,24 @@ pub(crate) fn missing(mask: &[u8], blocks: usize, block: usize, place: usize) ->
     requires { (blocks ≡ count mask.now) × (6 + 12 * blocks ≤ length mask.now) }
     ensures { result ≡ absent (mask_of mask.now) block place }
 {
-    if block == 0 {
-        return true;
-    }
-    if blocks < block {
-        return true;
-    }
-    (records::read_block(mask, block - 1).lower as usize) < place
+    block == 0 || blocks < block || (records::read_block(mask, block - 1).lower as usize) < place
 }
 
 // Where the entries of a block, from 0, begin in the narrowed list: each block before has l + 1 of them.
 fn first_entry(mask: &[u8], block: usize) -> usize
-    requires { (mask_refusal mask.now ≡ 0) × (block < count mask.now) }
+    requires { (mask_refusal mask.now ≡ accepted) × (block < count mask.now) }
     ensures { result ≡ begins (mask_of mask.now) block }
 {
     let mut entry = 0;
-    let mut i = 0;
-    while i < block {
-        let lower = records::read_block(mask, i).lower as usize;
-        entry += lower + 1;
-        i += 1;
+    for i in 0..block {
+        entry += records::read_block(mask, i).lower as usize + 1;
     }
     entry
 }
 
 // The number of the entry of a block, from 0, and a place; place 0 is the optional part, behind the places.
 fn entry_of(mask: &[u8], block: usize, place: usize) -> usize
-    requires mask_value { (mask_refusal mask.now ≡ 0) × (block < count mask.now) }
+    requires mask_value { (mask_refusal mask.now ≡ accepted) × (block < count mask.now) }
     requires place_bound { place ≤ (block_at (mask_of mask.now) block).lower }
     ensures { result ≡ entry_of (mask_of mask.now) block place }
 {
@@ -58,57 +49,34 @@ fn entry_of(mask: &[u8], block: usize, place: usize) -> usize
 
 // The set and bounds of a block, from 1, and a place that are not missing.
 pub(crate) fn place_entry(pair: Pair, book: &[u8], mask: &[u8], block: usize, place: usize) -> Block
-    requires mask_value { read_pair book.now mask.now ≡ Accepted pair }
+    requires mask_value { read_pair book.now mask.now ≡ Ok pair }
     requires place_value { absent (mask_of mask.now) block place ≡ false }
     ensures { result ≡ placed (book_of book.now) (mask_of mask.now) block place }
 {
     let entry = entry_of(mask, block - 1, place);
-    if pair.mask.blocks <= 64 {
-        if pair.mask.uppers <= 64 {
-            return place_small(pair, book, mask, entry);
-        }
+    if pair.mask.blocks <= 64 && pair.mask.uppers <= 64 {
+        return place_sized::<64, 128>(pair, book, mask, entry);
     }
-    place_large(pair, book, mask, entry)
+    place_sized::<1024, 2048>(pair, book, mask, entry)
 }
 
-// An entry of the narrowed list of a mask of at most 64 blocks, with uppers that sum to at most 64.
-fn place_small(pair: Pair, book: &[u8], mask: &[u8], entry: usize) -> Block
-    requires mask_value { read_pair book.now mask.now ≡ Accepted pair }
+// An entry of the narrowed list, in room for at most MOST blocks whose upper bounds sum to at most MOST; ROOM is twice as much.
+fn place_sized<const MOST: usize, const ROOM: usize>(
+    pair: Pair,
+    book: &[u8],
+    mask: &[u8],
+    entry: usize,
+) -> Block
+    requires mask_value { read_pair book.now mask.now ≡ Ok pair }
     requires bound { entry < lower_sum (mask_of mask.now) + pair.mask.blocks }
-    requires blocks_bound { (pair.mask.blocks ≤ 64) × (pair.mask.uppers ≤ 64) }
+    requires room { (pair.mask.blocks ≤ MOST) × (pair.mask.uppers ≤ MOST) × (MOST + MOST ≤ ROOM) × (ROOM ≤ 2048) }
     ensures { result ≡ entry_at (book_of book.now) (mask_of mask.now) entry }
 {
-    let mut bases = [0u64; 128];
-    let mut lowers = [0u16; 128];
-    let mut uppers = [0u16; 128];
-    let mut firsts = [0u64; 64];
-    let mut sets = [0u64; 64];
-    let mut known = [0u64; 133];
-    place_in(
-        pair,
-        book,
-        mask,
-        entry,
-        &mut bases,
-        &mut lowers,
-        &mut uppers,
-        &mut firsts,
-        &mut sets,
-        &mut known,
-    )
-}
-
-// An entry of the narrowed list of any mask.
-fn place_large(pair: Pair, book: &[u8], mask: &[u8], entry: usize) -> Block
-    requires mask_value { read_pair book.now mask.now ≡ Accepted pair }
-    requires bound { entry < lower_sum (mask_of mask.now) + pair.mask.blocks }
-    ensures { result ≡ entry_at (book_of book.now) (mask_of mask.now) entry }
-{
-    let mut bases = [0u64; 2048];
-    let mut lowers = [0u16; 2048];
-    let mut uppers = [0u16; 2048];
-    let mut firsts = [0u64; 1024];
-    let mut sets = [0u64; 1024];
+    let mut bases = [0u64; ROOM];
+    let mut lowers = [0u16; ROOM];
+    let mut uppers = [0u16; ROOM];
+    let mut firsts = [0u64; MOST];
+    let mut sets = [0u64; MOST];
     let mut known = [0u64; 133];
     place_in(
         pair,
@@ -137,7 +105,7 @@ fn place_in(
     sets: &mut [u64],
     known: &mut [u64],
 ) -> Block
-    requires mask_value { read_pair book.now mask.now ≡ Accepted pair }
+    requires mask_value { read_pair book.now mask.now ≡ Ok pair }
     requires bound { entry < lower_sum (mask_of mask.now) + pair.mask.blocks }
     requires lent { Lent pair.mask bases.old lowers.old uppers.old firsts.old sets.old known.old }
     ensures { result ≡ entry_at (book_of book.now) (mask_of mask.now) entry }

@@ -1,18 +1,23 @@
 -- The loops over the letters of a set, and over the states of one: what one state does by each letter, and one letter from each state.
 -- Assumes nothing.
 use Prim.Native.Nat.{ℕ, ◌^◌, ◌≤◌, ◌<◌}
-use mathlib.Core.Path.{◌≡◌, refl}
+use mathlib.Core.Path.{◌≡◌, refl, ◌∙◌}
 use mathlib.Core.Logic.{◌↔◌}
+use mathlib.Core.Bool.{true, false}
+use mathlib.Core.List.{[], ◌∷◌}
 use native.Mathlib.Omega.{arith}
 use borrow.Author.Tests.{le-ltb}
 use lib.Dec.{T}
 use lib.Pow.{pow-lt}
-use Rattle.model.specs.Set.{has, Member, members, some_member}
+use Rattle.std.specs.Prelude.{filter, fold}
+use Rattle.model.specs.Set.{has, Member, either, members, some_member}
 use Rattle.model.specs.Automaton.{Table, next}
 use Rattle.model.specs.Passes.{reach, after, before, between}
 use Rattle.model.proofs.Set.{member, in_one, one_in, some_member_lem, in_members, members_bytes, union_bytes}
 use Rattle.model.proofs.Automaton.{next_le}
 use Rattle.model.proofs.Steps.{in_between, between_bytes}
+use Rattle.bitset.specs.Listed.{listed}
+use Rattle.bitset.proofs.Listed.{members_listed}
 use Rattle.bitset.proofs.Laws.{same_members}
 use Rattle.propagator.specs.Moves.{leads}
 use Rattle.propagator.specs.Known.{image}
@@ -57,6 +62,28 @@ letters_between t fits S q E h =
           let same : p ≡ q = in_one o in
           (in_members S (λ c. has E (next t q c))).1 (n, (rw same at k).there),
     ))
+
+-- the letters found, and those of rest that lead from q to E
+abbrev pub leading_letters : Table → ℕ → ℕ → ℕ → ℕ → ℕ
+leading_letters t q E found rest = fold (λ a c. either a (2 ^ c)) found (filter (λ c. has E (next t q c)) (listed rest))
+
+module _ (t : Table) (q E : ℕ) where
+  -- none is found yet
+  pub letters_start : t.states < 64 → (S r : ℕ) → q < 64 → r ≡ S → leading_letters t q E 0 r ≡ between t S (2 ^ q) E
+  letters_start fits S r h e = rw e (members_listed S (λ c. has E (next t q c)) ∙ letters_between t fits S q E h)
+
+  module _ (rest rest' c r found : ℕ) (first : listed rest ≡ c ∷ listed rest') (e : r ≡ next t q c) where
+    -- the first letter leads there
+    pub letters_more : has E r ≡ true → leading_letters t q E (either found (2 ^ c)) rest' ≡ leading_letters t q E found rest
+    letters_more h = let leads : has E (next t q c) ≡ true = rw (← e) h in rw (first, leads)
+
+    -- it does not
+    pub letters_same : has E r ≡ false → leading_letters t q E found rest' ≡ leading_letters t q E found rest
+    letters_same h = let leads : has E (next t q c) ≡ false = rw (← e) h in rw (first, leads)
+
+  -- no letter is left
+  pub letters_end : (rest found : ℕ) → listed rest ≡ [] → found ≡ leading_letters t q E found rest
+  letters_end rest found e = rw e
 
 -- ---- some letter that leads to a set
 

@@ -59,14 +59,20 @@ pub(crate) fn targets(shape: Shape, moves: &[u8]) -> u64
     states
 }
 
-// The letters of `base` by which state `q` moves to a state of `end`.
+// The letters of `base` by which state `q` moves to a state of `end`. A loop with an `if`: of that the compiler makes one without
+// a jump, and of a `filter` it does not.
 pub(crate) fn letters_to(shape: Shape, moves: &[u8], base: u64, q: usize, end: u64) -> u64
     requires { Usable shape moves.now × Below shape.letters base × (q < 64) }
     ensures { result ≡ between (table shape moves.now) base (2 ^ q) end }
 {
-    bitset::members(base)
-        .filter(|c| bitset::has(end, next(shape, moves, q, *c)))
-        .fold(0, bitset::add)
+    let mut found = 0;
+    for c in bitset::members(base) {
+        let state = next(shape, moves, q, c);
+        if bitset::has(end, state) {
+            found = bitset::add(found, c);
+        }
+    }
+    found
 }
 
 // Whether some letter of `base` leads from state `q` to a state of `end`.

@@ -15,7 +15,8 @@ fn main(rt: HostRuntime) -> io::Result<()> {
     let mut text = [0u8; 65536];
     let mut room = [0u8; 70000];
     let input = input::read_full(&mut rt.stdin(), &mut text);
-    case::run_lines(&mut rt.stdout(), input, |out, case| {
+    let lines = input.split(|byte| *byte == b'\n');
+    case::run_lines(&mut rt.stdout(), lines, |out, case| {
         answer(out, case, &mut room)
     })
 }

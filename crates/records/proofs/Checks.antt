@@ -1,16 +1,15 @@
 -- Which check decides, and what those that pass tell.
 -- Assumes nothing.
-use Rattle.std.proofs.Common.{◌≡◌, ℕ, zero, suc, ◌*◌, ◌<◌, ◌≤◌, Bool, true, false, ◌||◌, Option, Some, ◌↔◌, List, [], ◌∷◌, ◌++◌, length, get_or, refl, mul-le-mul, arith}
-use mathlib.Core.Bool.{or-false, or_assoc}
+use Rattle.std.proofs.Common.{◌≡◌, ℕ, zero, suc, ◌*◌, ◌<◌, ◌≤◌, Bool, true, false, ◌||◌, Option, Some, Ok, ◌↔◌, List, [], ◌∷◌, ◌++◌, length, get_or, refl, mul-le-mul, arith}
 use Rattle.std.proofs.lemmas.Bool.Decides.{nat_tests}
 use Rattle.model.specs.declared.Block.{Block}
 use Rattle.model.specs.declared.Refusal.{Refusal}
-use Rattle.model.specs.Refusal.{accepted, refuse}
+use Rattle.model.specs.Refusal.{accepted, refuse, unless}
 use Rattle.model.specs.Set.{Member, some_from}
 use Rattle.model.specs.DashedString.{Each}
 use Rattle.bitset.proofs.Laws.{some_from_lem}
 use Rattle.records.specs.declared.Book.{Book}
-use Rattle.records.specs.Check.{some, length_field, unframed}
+use Rattle.records.specs.Check.{some, length_field, kind, unframed, frame_refusal}
 use Rattle.records.specs.Book.{out_of_range}
 
 -- no refusal: this check doesn't fail, and the next ones don't refuse
@@ -32,8 +31,8 @@ off t k r e = rw e
 -- one element more at the end
 pub some_more : {A : Type 0} (p : A → Bool) (xs : List A) (x : A) → some p (xs ++ x ∷ []) ≡ (some p xs || p x)
 unfolding some
-some_more p [] x = or-false (p x)
-some_more p (y ∷ xs) x = rw (some_more p xs x, or_assoc)
+some_more p [] x = grind arith
+some_more p (y ∷ xs) x = grind (arith, some_more p xs x)
 
 -- neither test fires
 pub neither : (a b : Bool) → (a || b ≡ false) ↔ ((a ≡ false) × (b ≡ false))
@@ -74,6 +73,11 @@ none_at p (x ∷ l) = (
 pub framing : (bs : List ℕ) → (unframed bs ≡ false) ↔ ((4 ≤ length bs) × (length_field bs ≡ length bs))
 unfolding unframed
 framing bs = grind (arith, nat_tests)
+
+-- what checks 1 to 3 leave
+pub framed : {A : Type 0} (k head : ℕ) (bs : List ℕ) (x y : A) → unless (frame_refusal k head bs) x ≡ Ok y → (unframed bs ≡ false) × (kind bs ≡ k) × (head ≤ length bs)
+unfolding refuse frame_refusal
+framed k head bs x y e = grind (arith, nat_tests)
 
 -- n and m are in their ranges
 pub in_range : (b : Book) → (out_of_range b ≡ false) ↔ (((0 < b.states) × (b.states ≤ 63)) × ((0 < b.letters) × (b.letters ≤ 64)))

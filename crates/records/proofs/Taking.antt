@@ -1,7 +1,7 @@
 -- A mask's numbers gathered from block after block, and what check 9 asks of them.
 -- Assumes nothing.
-use Rattle.std.proofs.Common.{◌≡◌, ℕ, zero, suc, ◌+◌, ◌<◌, Bool, true, false, ◌||◌, ltb, Ok, Err, List, [], ◌∷◌, ◌++◌, sym, refl, ◌∙◌, inl, inr, ⊎_elim, add-one, arith}
-use mathlib.Core.Bool.{or-true, or-false, or_assoc}
+use Rattle.std.proofs.Common.{◌≡◌, ℕ, zero, suc, ◌+◌, ◌<◌, Bool, true, false, ◌||◌, ltb, Ok, Err, List, [], ◌∷◌, ◌++◌, refl, add-one, arith}
+use Rattle.std.proofs.lemmas.Bool.Decides.{nat_tests}
 use Rattle.model.specs.declared.Block.{Block}
 use Rattle.model.specs.declared.Refusal.{Refusal}
 use Rattle.model.specs.declared.Refusal.TheVariants.{Crossed, Uppers}
@@ -9,14 +9,13 @@ use Rattle.model.specs.Refusal.{accepted, refuse, unless}
 use Rattle.model.specs.Set.{either, some_from}
 use Rattle.model.specs.DashedString.{values}
 use Rattle.model.specs.Size.{uppers}
-use Rattle.model.proofs.Set.{T_or, in_none, in_either}
-use Rattle.bitset.proofs.Laws.{same_test, some_from_lem}
+use Rattle.model.proofs.Set.{in_none, in_either}
+use Rattle.bitset.proofs.Laws.{some_from_lem}
 use Rattle.records.specs.declared.Mask.{Mask}
 use Rattle.records.specs.Check.{some}
 use Rattle.records.specs.Mask.{crossed, blocks_refusal, with_letters, read_blocks, foreign}
 use Rattle.records.specs.Gathered.{with_block}
-use Rattle.records.proofs.Answers.{unless_ok}
-use Rattle.records.proofs.Checks.{peel, some_more, none_from}
+use Rattle.records.proofs.Checks.{some_more}
 use Rattle.records.proofs.Stores.{values_more, length_values}
 
 -- with one block more at the end
@@ -33,23 +32,19 @@ module _ (x : Block) where
 -- one value that passes the test
 some_value : (p : Block → Bool) (f : ℕ → Block) (k i : ℕ) → i < k → p (f i) ≡ true → some p (values f k) ≡ true
 unfolding some
-some_value p f zero i h e = absurd (omega arith)
-some_value p f (suc k) zero h e = rw e
-some_value p f (suc k) (suc i) h e = rw (some_value p (λ j. f (suc j)) k i (omega arith) e) (or-true (p (f 0)))
+some_value p f zero i h e = grind arith
+some_value p f (suc k) zero h e = grind arith
+some_value p f (suc k) (suc i) h e = grind (arith, some_value p (λ j. f (suc j)) k i)
 
--- one check alone: what it leaves, and what it refuses
-alone_ok : {A : Type 0} (t : Bool) (k : Refusal) (x y : A) → unless (refuse t k accepted) x ≡ Ok y → (t ≡ false) × (y ≡ x)
-alone_ok t k x y e = let (passed, same) = unless_ok (refuse t k accepted) x y e in ((peel t k accepted passed).0, same)
-
-alone_err : {A : Type 0} (t : Bool) (k r : Refusal) (x : A) → unless (refuse t k accepted) x ≡ Err r → (t ≡ true) × (r ≡ k)
-unfolding refuse
-alone_err true k r x e = (refl, cc)
-alone_err false k r x e = cc
-
--- what one block more adds
+-- what one block more adds, or why it is refused
 pub block_taken : (m n : Mask) (x : Block) → with_block m x ≡ Ok n
     → (crossed x ≡ false) × (n ≡ record { blocks = m.blocks; uppers = m.uppers + x.upper; used = either m.used x.base })
-block_taken m n x = alone_ok (crossed x) Crossed _ n
+unfolding refuse
+block_taken m n x e = grind (arith, nat_tests)
+
+block_refused : (m : Mask) (x : Block) (r : Refusal) → with_block m x ≡ Err r → (crossed x ≡ true) × (r ≡ Crossed)
+unfolding refuse
+block_refused m x r e = grind (arith, nat_tests)
 
 -- the numbers of the first of `count` blocks, of which none is crossed
 pub record Gathered (count : ℕ) (xs : List Block) (m : Mask) : Type 0 where
@@ -78,7 +73,7 @@ module _ (count : ℕ) (f : ℕ → Block) (i : ℕ) (m : Mask) (gathered : Gath
   pub gathered_crossed : (r : Refusal) → i < count → with_block m (f i) ≡ Err r → Err r ≡ read_blocks (values f count)
   unfolding refuse blocks_refusal read_blocks
   gathered_crossed r h e =
-      let (fails, same) = alone_err (crossed (f i)) Crossed r _ e in
+      let (fails, same) = block_refused m (f i) r e in
       rw (same, some_value crossed f count i h fails)
 
   -- of all: check 8 decides
@@ -88,27 +83,14 @@ module _ (count : ℕ) (f : ℕ → Block) (i : ℕ) (m : Mask) (gathered : Gath
 
 -- some member of either set is m or above
 from_either : (s t m : ℕ) → some_from (either s t) m ≡ (some_from s m || some_from t m)
-from_either s t m =
-    same_test (some_from (either s t) m) (some_from s m || some_from t m) (
-      λ h.
-          let (i, k, l) = (some_from_lem (either s t) m).0 h in
-          (T_or (some_from s m) (some_from t m)).1
-          (⊎_elim (λ a. inl ((some_from_lem s m).1 (i, a, l))) (λ a. inr ((some_from_lem t m).1 (i, a, l))) ((in_either s t).0 k)),
-      λ h.
-          ⊎_elim
-          (λ a. let (i, k, l) = (some_from_lem s m).0 a in (some_from_lem (either s t) m).1 (i, (in_either s t).1 (inl k), l))
-          (λ a. let (i, k, l) = (some_from_lem t m).0 a in (some_from_lem (either s t) m).1 (i, (in_either s t).1 (inr k), l))
-          ((T_or (some_from s m) (some_from t m)).0 h),
-    )
+from_either s t m = grind (arith, nat_tests, some_from_lem, in_either)
 
 -- a letter that is m or above is in a set, or in that of some block
 with_foreign : (m s : ℕ) (xs : List Block) → some_from (with_letters s xs) m ≡ (some_from s m || foreign m xs)
 unfolding some foreign with_letters
-with_foreign m s [] = sym (or-false (some_from s m))
-with_foreign m s (x ∷ xs) =
-    with_foreign m (either s x.base) xs
-    ∙ rw (from_either s x.base m) (or_assoc (some_from s m) (some_from x.base m) (foreign m xs))
+with_foreign m s [] = grind arith
+with_foreign m s (x ∷ xs) = grind (arith, with_foreign m (either s x.base) xs, from_either)
 
 -- check 9, by the letters that some set has
 pub used_foreign : (m : ℕ) (xs : List Block) → some_from (with_letters 0 xs) m ≡ foreign m xs
-used_foreign m xs = rw ((none_from 0 m).1 (λ i h. absurd (in_none h))) at (with_foreign m 0 xs)
+used_foreign m xs = grind (arith, with_foreign m 0 xs, some_from_lem, in_none)

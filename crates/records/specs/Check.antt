@@ -1,5 +1,8 @@
 -- What the checks of books and masks share (01, "The four operations and when they turn back").
-use Rattle.std.specs.Prelude.{ℕ, Bool, false, not, ◌||◌, List, [], ◌∷◌, length, ◌==◌, nat_lt}
+use Rattle.std.specs.Prelude.{ℕ, Bool, false, not, ◌||◌, Option, List, [], ◌∷◌, length, ◌==◌, nat_lt}
+use Rattle.model.specs.declared.Refusal.{Refusal}
+use Rattle.model.specs.declared.Refusal.TheVariants.{Unframed, Kind, Head}
+use Rattle.model.specs.Refusal.{accepted, refuse}
 use Rattle.records.specs.Bytes.{number_at}
 
 -- some element passes the test
@@ -18,3 +21,11 @@ kind bs = number_at 2 bs 2
 -- check 1: fewer than 4 bytes, or a length field that isn't the number of bytes lent
 unfoldable pub unframed : List ℕ → Bool
 unframed bs = nat_lt (length bs) 4 || not (length_field bs == length bs)
+
+-- checks 1 to 3 of a record of kind k, whose head has so many bytes
+unfoldable pub frame_refusal : ℕ → ℕ → List ℕ → Option Refusal
+frame_refusal k head bs =
+    refuse (unframed bs) Unframed
+    (refuse (not (kind bs == k)) Kind
+    (refuse (nat_lt (length bs) head) Head
+    accepted))

@@ -1,15 +1,34 @@
 // What the head of a record says: its length and its kind.
 ghost use Rattle.std.specs.Prelude.{◌≡◌, ◌≤◌, length};
+ghost use Rattle.model.specs.Refusal.{unless};
 ghost use Rattle.records.specs.Check as spec;
 
 use crate::number;
+use model::Refusal;
 
 // Check 1: whether there are fewer than 4 bytes, or the length field isn't their number.
 #[tactic(auto, unfolding(crate::specs::Check::unframed))]
-pub(crate) fn unframed(bytes: &[u8]) -> bool
+fn unframed(bytes: &[u8]) -> bool
     ensures { result ≡ spec.unframed bytes.now }
 {
     bytes.len() < 4 || length_field(bytes) != bytes.len()
+}
+
+// Checks 1 to 3 of a record of the kind asked for, whose head has `head` bytes.
+#[tactic(auto, using(crate::proofs::Checks::framing), unfolding(model::specs::Refusal::refuse, crate::specs::Check::frame_refusal))]
+pub(crate) fn check(bytes: &[u8], asked: u64, head: usize) -> Result<(), Refusal>
+    ensures { result ≡ unless (spec.frame_refusal asked head bytes.now) tt }
+{
+    if unframed(bytes) {
+        return Err(Refusal::Unframed);
+    }
+    if kind(bytes) != asked {
+        return Err(Refusal::Kind);
+    }
+    if bytes.len() < head {
+        return Err(Refusal::Head);
+    }
+    Ok(())
 }
 
 // The length field of a record.
@@ -21,7 +40,7 @@ pub fn length_field(bytes: &[u8]) -> usize
 }
 
 // The kind of a record.
-pub(crate) fn kind(bytes: &[u8]) -> u64
+fn kind(bytes: &[u8]) -> u64
     requires { 4 ≤ length bytes.now }
     ensures { result ≡ spec.kind bytes.now }
 {

@@ -45,19 +45,11 @@ pub struct Mask {
 }
 
 // A slice as a book, or the first book check that fails.
-#[tactic(auto, using(crate::proofs::Checks::framing, crate::proofs::Checks::few_moves, crate::proofs::Over::part_rest), unfolding(model::specs::Refusal::refuse, crate::specs::Book::read_book, crate::specs::Book::book_checks, crate::specs::Book::moves_of))]
+#[tactic(auto, using(crate::proofs::Checks::framing, crate::proofs::Checks::few_moves, crate::proofs::Over::part_rest), unfolding(model::specs::Refusal::refuse, crate::specs::Book::read_book, crate::specs::Book::book_checks, crate::specs::Check::frame_refusal, crate::specs::Book::moves_of))]
 pub fn read_book(bytes: &[u8]) -> Result<Book, Refusal>
     ensures { result ≡ read_book bytes.now }
 {
-    if frame::unframed(bytes) {
-        return Err(Refusal::Unframed);
-    }
-    if frame::kind(bytes) != 1 {
-        return Err(Refusal::Kind);
-    }
-    if bytes.len() < 15 {
-        return Err(Refusal::Head);
-    }
+    frame::check(bytes, 1, 15)?;
     let book = automaton::head(bytes);
     if automaton::out_of_range(book) {
         return Err(Refusal::OutOfRange);
@@ -72,19 +64,11 @@ pub fn read_book(bytes: &[u8]) -> Result<Book, Refusal>
 }
 
 // A slice as a mask, or the first mask check that fails.
-#[tactic(auto, using(crate::proofs::Checks::framing), unfolding(model::specs::Refusal::refuse, crate::specs::Mask::read_mask, crate::specs::Mask::mask_refusal))]
+#[tactic(auto, using(crate::proofs::Checks::framing), unfolding(model::specs::Refusal::refuse, crate::specs::Mask::read_mask, crate::specs::Mask::mask_refusal, crate::specs::Check::frame_refusal))]
 pub fn read_mask(bytes: &[u8]) -> Result<Mask, Refusal>
     ensures { result ≡ read_mask bytes.now }
 {
-    if frame::unframed(bytes) {
-        return Err(Refusal::Unframed);
-    }
-    if frame::kind(bytes) != 2 {
-        return Err(Refusal::Kind);
-    }
-    if bytes.len() < 6 {
-        return Err(Refusal::Head);
-    }
+    frame::check(bytes, 2, 6)?;
     let blocks = number::read(bytes, 4, 2) as usize;
     if 1024 < blocks {
         return Err(Refusal::OutOfRange);
