@@ -13,17 +13,12 @@ use Rattle.model.specs.DashedString.{block_at}
 use Rattle.model.specs.Size.{lower_sum}
 use Rattle.model.specs.Automaton.{Table}
 use Rattle.model.specs.Passes.{segments_of, at_most, final}
-use Rattle.records.specs.Written.{numbered, blocks_of}
+use Rattle.propagator.specs.Entries.{numbered, blocks_of}
 use Rattle.records.proofs.Stores.{length_values}
 use Rattle.propagator.specs.Moves.{exactly}
-use Rattle.propagator.specs.Known.{Known}
 use Rattle.propagator.specs.Rows.{Keeps, Places, Stored, entering}
 use Rattle.propagator.proofs.Rows.{sum_next, sum_mono, sum_all, block_final, entering_first, entering_next}
 use Rattle.propagator.proofs.Slices.{entry_is}
-
--- what is known, of its own set
-pub known_own : (t : Table) (S : ℕ) (known : List ℕ) → Known t S known → Known t (get_or known 65 0) known
-known_own t S known k = rw k.base k
 
 -- a block's R, from its Ql
 pub block_passed : (t : Table) (x : Block) (Q last r : ℕ) → last ≡ exactly t x.base Q x.lower → r ≡ at_most t x.base last (x.upper - x.lower)

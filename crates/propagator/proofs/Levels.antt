@@ -17,7 +17,7 @@ use Rattle.bitset.specs.Difference.{difference}
 use Rattle.bitset.proofs.Laws.{same_members, shared_test, in_difference}
 use Rattle.propagator.specs.Moves.{leads}
 use Rattle.propagator.proofs.Gathering.{inside_or_not}
-use Rattle.propagator.proofs.Letters.{before_bytes, leads_exact}
+use Rattle.propagator.proofs.Leading.{before_bytes, leads_exact}
 
 -- ---- the next level
 

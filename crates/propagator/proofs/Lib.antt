@@ -1,6 +1,7 @@
 -- Laws of the passes, and what the loops keep; the proofs of functions stand in folders of their names.
+pub mod Writing
 pub mod Gathering
-pub mod Letters
+pub mod Leading
 pub mod Targets
 pub mod Remembered
 pub mod Filling

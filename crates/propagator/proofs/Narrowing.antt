@@ -19,7 +19,7 @@ use Rattle.bitset.proofs.Laws.{same_test, same_members, trailing_first, in_diffe
 use Rattle.bitset.proofs.Listed.{joined, union_listed, members_listed, joined_none, joined_next}
 use Rattle.propagator.specs.Moves.{leads}
 use Rattle.propagator.proofs.Gathering.{inside_or_not}
-use Rattle.propagator.proofs.Letters.{Leading, leads_exact, leading_before}
+use Rattle.propagator.proofs.Leading.{Leading, leads_exact, leading_before}
 
 -- the states found, and those of rest from which a letter leads to E
 abbrev keeping : Table → ℕ → ℕ → ℕ → ℕ → ℕ

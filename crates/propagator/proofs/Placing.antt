@@ -10,9 +10,9 @@ use lib.ListN.{set, replicate}
 use Rattle.model.specs.DashedString.{block}
 use Rattle.model.specs.Automaton.{Table}
 use Rattle.model.specs.Passes.{Segment, mandatory, before, between, forward, backward, pruned}
-use Rattle.records.specs.Written.{Enough}
-use Rattle.records.proofs.Copies.{stored_other}
-use Rattle.normal_form.proofs.Steps.{between_set}
+use Rattle.propagator.specs.Entries.{Enough}
+use Rattle.propagator.proofs.Writing.{stored_other}
+use Rattle.propagator.proofs.Writing.{between_set}
 use Rattle.propagator.specs.declared.places.Kept.{Kept}
 use Rattle.propagator.specs.Moves.{exactly}
 use Rattle.propagator.specs.Rows.{kept_to, entries_to, Becomes, Places, set_before, Writes}

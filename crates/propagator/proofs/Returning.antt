@@ -13,7 +13,7 @@ use Rattle.model.specs.Size.{WellFormed, Room, lower_sum}
 use Rattle.model.specs.Automaton.{Table}
 use Rattle.model.specs.Passes.{mandatory, optional, segments_of, segments, at_most, backward, pruned, final}
 use Rattle.model.proofs.Set.{in_both}
-use Rattle.records.specs.Written.{numbered, blocks_of, blocks_between, Enough}
+use Rattle.propagator.specs.Entries.{numbered, blocks_of, blocks_between, Enough}
 use Rattle.records.proofs.Stores.{length_values}
 use Rattle.bitset.proofs.Laws.{same_members}
 use Rattle.propagator.specs.Moves.{exactly}

@@ -14,7 +14,7 @@ use Rattle.model.proofs.Steps.{rounds_stay, in_after}
 use Rattle.bitset.specs.Difference.{difference}
 use Rattle.bitset.proofs.Laws.{same_members, in_difference}
 use Rattle.propagator.proofs.Gathering.{inside_or_not}
-use Rattle.propagator.proofs.Letters.{after_bytes}
+use Rattle.propagator.proofs.Leading.{after_bytes}
 
 -- a member is in another set or in the difference
 in_or_left : (s t : ℕ) {i : ℕ} → Member i s → Member i t ⊎ Member i (difference s t)

@@ -10,8 +10,8 @@ use lib.Seq.{get_or-drop}
 use Rattle.model.specs.declared.Block.{Block}
 use Rattle.model.specs.DashedString.{block_at, values, Each}
 use Rattle.model.specs.Size.{WellFormed, Room}
-use Rattle.records.specs.Written.{numbered, blocks_of, blocks_between, Enough}
-use Rattle.records.proofs.Copies.{stored_here, stored_other}
+use Rattle.propagator.specs.Entries.{numbered, blocks_of, blocks_between, Enough}
+use Rattle.propagator.proofs.Writing.{stored_here, stored_other}
 use Rattle.records.proofs.Stores.{length_values}
 use Rattle.propagator.specs.Rows.{Writes}
 

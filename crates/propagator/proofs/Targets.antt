@@ -26,7 +26,7 @@ use Rattle.records.proofs.Checks.{none_at}
 use Rattle.records.proofs.Next.{move_inside, next_names}
 use Rattle.bitset.proofs.Laws.{same_test, some_from_lem}
 use Rattle.propagator.specs.Known.{targets, Targets, limit}
-use Rattle.propagator.proofs.Letters.{next_dead}
+use Rattle.propagator.proofs.Leading.{next_dead}
 
 -- ---- whether some move names no state
 

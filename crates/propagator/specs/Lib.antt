@@ -1,4 +1,6 @@
 -- What the functions of the passes give: sets of states and letters, and the entries of the narrowed list.
 pub mod Moves
 pub mod Known
+pub mod Table
+pub mod Entries
 pub mod Rows

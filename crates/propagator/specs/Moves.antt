@@ -1,19 +1,8 @@
--- The moves of a book as the passes read them.
-use Rattle.std.specs.Prelude.{ℕ, zero, suc, ◌*◌, ◌≤◌, ◌<◌, Bool, List, length}
+-- Where the letters of a set lead.
+use Rattle.std.specs.Prelude.{ℕ, zero, suc, ◌<◌, Bool}
 use Rattle.model.specs.Set.{has, Member, some_member}
 use Rattle.model.specs.Automaton.{Table, next}
 use Rattle.model.specs.Passes.{after}
-use Rattle.records.specs.Book.{table_of}
-use Rattle.propagator.specs.declared.Shape.{Shape}
-
--- at most 63 states, and a move for each state and letter
-pub record Usable (shape : Shape) (moves : List ℕ) : Type 0 where
-  pub small : shape.states < 64
-  pub enough : shape.states * shape.letters ≤ length moves
-
--- the table of a shape and its moves
-abbrev pub table : Shape → List ℕ → Table
-table shape moves = table_of shape.states shape.letters moves
 
 -- each member of the set is below m
 abbrev pub Below : ℕ → ℕ → Type 0

@@ -7,7 +7,7 @@ use Rattle.model.specs.Automaton.{Table, Dfa}
 use Rattle.model.specs.Passes.{Segment, segments, before, between, forward, backward, pruned, final, finals, narrowed_list}
 use Rattle.model.specs.Verdict.{some_legal}
 use Rattle.model.specs.Size.{lower_sum}
-use Rattle.records.specs.Written.{numbered, blocks_of, blocks_between, Enough}
+use Rattle.propagator.specs.Entries.{numbered, blocks_of, blocks_between, Enough}
 use Rattle.propagator.specs.declared.Passed.{Passed}
 use Rattle.propagator.specs.declared.places.Kept.{Kept}
 use Rattle.propagator.specs.Moves.{exactly}
@@ -61,13 +61,12 @@ pub record Writes (bases lowers uppers : List ℕ) (first end : ℕ) (ys : List 
   pub behind : (k : ℕ) → end ≤ k → numbered bases' lowers' uppers' k ≡ numbered bases lowers uppers k
 
 -- room for the passes over the first n blocks of three slices: an entry for each place and each optional part; Q0 of each block;
--- Q1 to Ql of each; what is known
-abbrev pub Scratch : List ℕ → List ℕ → List ℕ → ℕ → List ℕ → List ℕ → List ℕ → Type 0
-Scratch bases lowers uppers n firsts sets known =
+-- Q1 to Ql of each
+abbrev pub Scratch : List ℕ → List ℕ → List ℕ → ℕ → List ℕ → List ℕ → Type 0
+Scratch bases lowers uppers n firsts sets =
     Enough bases lowers uppers (lower_sum (blocks_of bases lowers uppers n) + n)
     × (lower_sum (blocks_of bases lowers uppers n) ≤ length sets)
     × (n ≤ length firsts)
-    × (length known ≡ 133)
 
 -- what both passes over the first n blocks of three slices leave there: the states possible behind the last block, how many
 -- entries there are, and, where some code is legal, the entries themselves

@@ -4,12 +4,11 @@ ghost use Rattle.model.specs.Set.{both, either};
 ghost use Rattle.model.specs.DashedString.{block};
 ghost use Rattle.model.specs.Passes as passes;
 ghost use Rattle.model.specs.Passes.{before, to_end, at_most, optional, pruned, backward};
-ghost use Rattle.propagator.specs.Moves.{Usable, Below, table};
+ghost use Rattle.propagator.specs.Table.{table};
 ghost use Rattle.propagator.specs.Rows.{Becomes};
 
-use crate::Shape;
-use crate::moving::some_letter_to;
-use crate::places::{Kept, narrow_place};
+use crate::letters::Letters;
+use crate::places::Kept;
 use model::Block;
 
 // What an optional part becomes, and the states kept before it; and what a place becomes, where one was looked at for it.
@@ -20,94 +19,76 @@ pub(crate) struct Optional {
     pub kept: Option<Kept>,
 }
 
-// The next level, where `level` is one.
-fn raise(shape: Shape, moves: &[u8], base: u64, within: u64, level: u64) -> u64
-    requires { Usable shape moves.now × Below shape.letters base }
-    ensures { result ≡ either level (before (table shape moves.now) base within level) }
-{
-    let more = bitset::members(bitset::difference(within, level))
-        .filter(|q| some_letter_to(shape, moves, base, *q, level))
-        .fold(0, bitset::add);
-    bitset::union(level, more)
-}
-
-// Level `height`, through states of `within` to states of `end`. Where a level repeats, all above are that level.
-fn level_of(shape: Shape, moves: &[u8], base: u64, within: u64, end: u64, height: u16) -> u64
-    requires { Usable shape moves.now × Below shape.letters base }
-    ensures { result ≡ to_end (table shape moves.now) base within end height }
-{
-    let mut level = end;
-    for _ in 0..height {
-        let next = raise(shape, moves, base, within, level);
-        if next == level {
-            return level;
-        }
-        level = next;
+impl<'a> Letters<'a> {
+    // The next level, where `level` is one.
+    fn raise(self, within: u64, level: u64) -> u64
+        ensures { result ≡ either level (before (table self.entry.moves) self.entry.set within level) }
+    {
+        let more = bitset::members(bitset::difference(within, level))
+            .filter(|q| self.some_letter_to(*q, level))
+            .fold(0, bitset::add);
+        bitset::union(level, more)
     }
-    level
-}
 
-// The least b(q) over the states q of `from`, or `width` where none is below.
-fn fewest(
-    shape: Shape,
-    moves: &[u8],
-    base: u64,
-    within: u64,
-    end: u64,
-    from: u64,
-    width: u16,
-) -> u16
-    requires { Usable shape moves.now × Below shape.letters base }
-    ensures { result ≡ passes.fewest (table shape moves.now) base within end from width }
-{
-    let mut level = end;
-    for height in 0..width {
-        if bitset::intersection(from, level) != 0 {
-            return height;
+    // Level `height`, through states of `within` to states of `end`. Where a level repeats, all above are that level.
+    fn level_of(self, within: u64, end: u64, height: u16) -> u64
+        ensures { result ≡ to_end (table self.entry.moves) self.entry.set within end height }
+    {
+        let mut level = end;
+        for _ in 0..height {
+            let next = self.raise(within, level);
+            if next == level {
+                return level;
+            }
+            level = next;
         }
-        level = raise(shape, moves, base, within, level);
+        level
     }
-    width
-}
 
-// The optional part of at most `width` letters of `base`: `from` are the states possible before it, `within` those possible
-// behind it and `end` those kept behind it.
-pub(crate) fn narrow_optional(
-    shape: Shape,
-    moves: &[u8],
-    base: u64,
-    width: u16,
-    from: u64,
-    within: u64,
-    end: u64,
-) -> Optional
-    requires usable { Usable shape moves.now × Below shape.letters base }
-    requires within_value { (within ≡ at_most (table shape moves.now) base from width) × (both within end ≡ end) }
-    ensures block_value { result.block ≡ pruned (table shape moves.now) from (optional base width) end }
-    ensures states_value { result.states ≡ backward (table shape moves.now) from (optional base width) end }
-    ensures becomes { IfSome result.kept (λ kept. Becomes (table shape moves.now) base kept.from kept.to kept) }
-{
-    if width == 0 {
-        return Optional {
+    // The least b(q) over the states q of `from`, or `width` where none is below.
+    fn fewest(self, within: u64, end: u64, from: u64, width: u16) -> u16
+        ensures { result ≡ passes.fewest (table self.entry.moves) self.entry.set within end from width }
+    {
+        let mut level = end;
+        for height in 0..width {
+            if bitset::intersection(from, level) != 0 {
+                return height;
+            }
+            level = self.raise(within, level);
+        }
+        width
+    }
+
+    // The optional part of at most `width` letters: `from` are the states possible before it, `within` those possible behind it
+    // and `end` those kept behind it.
+    pub(crate) fn narrow_optional(self, width: u16, from: u64, within: u64, end: u64) -> Optional
+        requires within_value { (within ≡ at_most (table self.moves) self.set from width) × (both within end ≡ end) }
+        ensures block_value { result.block ≡ pruned (table self.entry.moves) from (optional self.entry.set width) end }
+        ensures states_value { result.states ≡ backward (table self.entry.moves) from (optional self.entry.set width) end }
+        ensures becomes { IfSome result.kept (λ kept. Becomes (table self.entry.moves) self.entry.set kept.from kept.to kept) }
+    {
+        if width == 0 {
+            return Optional {
+                block: Block {
+                    base: 0,
+                    lower: 0,
+                    upper: 0,
+                },
+                states: bitset::intersection(from, end),
+                kept: None,
+            };
+        }
+        let level = self.level_of(within, end, width - 1);
+        let kept = self.narrow_place(within, level);
+        let lower = self.fewest(within, end, from, width);
+        Optional {
             block: Block {
-                base: 0,
-                lower: 0,
-                upper: 0,
+                base: kept.letters,
+                lower,
+                upper: width,
             },
-            states: bitset::intersection(from, end),
-            kept: None,
-        };
-    }
-    let level = level_of(shape, moves, base, within, end, width - 1);
-    let kept = narrow_place(shape, moves, base, within, level);
-    let lower = fewest(shape, moves, base, within, end, from, width);
-    Optional {
-        block: Block {
-            base: kept.letters,
-            lower,
-            upper: width,
-        },
-        states: bitset::intersection(from, bitset::union(level, kept.states)),
-        kept: Some(kept),
+            states: bitset::intersection(from, bitset::union(level, kept.states)),
+            kept: Some(kept),
+        }
     }
 }

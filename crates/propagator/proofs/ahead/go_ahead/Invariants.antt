@@ -1,12 +1,11 @@
-use Rattle.std.proofs.Common.{get_or}
-use Rattle.records.specs.Written.{blocks_of}
-use Rattle.propagator.specs.Moves.{table}
-use Rattle.propagator.specs.Known.{Known}
+use mathlib.Core.Path.{◌≡◌}
+use Rattle.propagator.specs.Entries.{blocks_of}
+use Rattle.propagator.specs.Table.{table}
 use Rattle.propagator.proofs.Forth.{Passing}
 use Rattle.propagator.proofs.ahead.go_ahead.Given as goal
 
 abbrev pub invariant-loop-i : goal.invariant-loop-i
-invariant-loop-i l = let t = table l.shape l.moves in record {
-  remembered : Known t (get_or l.known 65 0) l.known;
-  passing : Passing t l.start (blocks_of l.bases l.lowers l.uppers l.count) l.firsts l.sets l.states l.at l.i;
+invariant-loop-i l = let moves = l.initial.steps.letters.moves in record {
+  same : l.steps.letters.moves ≡ moves;
+  passing : Passing (table moves) l.start (blocks_of l.bases l.lowers l.uppers l.count) l.firsts l.sets l.states l.at l.i;
 }

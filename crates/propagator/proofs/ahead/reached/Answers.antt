@@ -1,20 +1,21 @@
 -- `propagator::ahead::reached` meets its contract.
+use mathlib.Core.Path.{refl, ◌∙◌}
 use native.Mathlib.Omega.{arith}
 use borrow.Author.Rules.{rules}
 use Rattle.propagator.proofs.Rounds.{reaching_starts, reaching_stops, reaching_more}
 use Rattle.propagator.proofs.ahead.reached.Goals as goal
 
 pub loop-init : goal.loop-init
-loop-init c = record { right = c.requires.known; reaching = reaching_starts _ _ _ (search rules) }
+loop-init c = record { same = refl; reaching = reaching_starts _ _ _ (search rules) }
 
 pub returns-then-front-eq0-clause-value : goal.returns-then-front-eq0-clause-value
 returns-then-front-eq0-clause-value c =
-    reaching_stops _ c.requires.usable.0.small _ _ _ _ _ c.loop.invariant.reaching _ _ c.step.ensures.value c.difference-front.ensures _
+    reaching_stops _ c.args.steps.now.letters.moves.small _ _ _ _ _ c.loop.invariant.reaching _ _ (rw c.loop.invariant.same at c.step.ensures.value) c.difference-front.ensures _
     c.if-front-eq0.true (omega arith)
 
 pub loop-preserved : goal.loop-preserved
 loop-preserved c =
     record {
-      right = c.step.ensures.known_2;
-      reaching = reaching_more _ c.requires.usable.0.small _ _ _ _ _ c.loop.invariant.reaching _ _ c.step.ensures.value c.difference-front.ensures _ c.union-all.ensures;
+      same = c.step.ensures.same ∙ c.loop.invariant.same;
+      reaching = reaching_more _ c.args.steps.now.letters.moves.small _ _ _ _ _ c.loop.invariant.reaching _ _ (rw c.loop.invariant.same at c.step.ensures.value) c.difference-front.ensures _ c.union-all.ensures;
     }

@@ -1,7 +1,10 @@
-use Rattle.propagator.specs.Moves.{table}
-use Rattle.propagator.specs.Known.{Known}
+use mathlib.Core.Path.{◌≡◌}
+use Rattle.propagator.specs.Table.{table}
 use Rattle.propagator.proofs.Rounds.{Reaching}
 use Rattle.propagator.proofs.ahead.reached.Given as goal
 
 abbrev pub invariant-loop : goal.invariant-loop
-invariant-loop l = let t = table l.shape l.moves in record { right : Known t l.base l.known; reaching : Reaching t l.base l.from l.all l.front l.counter }
+invariant-loop l = let letters = l.initial.steps.letters in record {
+  same : l.steps.letters ≡ letters;
+  reaching : Reaching (table letters.moves) letters.set l.from l.all l.front l.counter;
+}

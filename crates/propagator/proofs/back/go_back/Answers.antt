@@ -3,14 +3,14 @@ use Prim.Native.Nat.{suc, ◌-◌}
 use mathlib.Core.Path.{◌≡◌}
 use native.Mathlib.Omega.{arith}
 use lib.ListN.{get_or}
-use Rattle.propagator.specs.Moves.{table}
+use Rattle.propagator.specs.Table.{table}
 use Rattle.propagator.proofs.Returning.{Taken, returning_starts, returning_taken, returning_more, returning_ends}
 use Rattle.propagator.proofs.back.go_back.Goals as goal
 use Rattle.propagator.proofs.back.go_back.Goals.{After-block_at-block}
 
 -- what is known of the block that is taken
 taken : (c : After-block_at-block) → let k = c.loop-i.i - 1 in
-    Taken (table c.args.shape c.args.moves.now) c.args.shape.letters c.args.count c.args.total c.args.sets.now c.loop-i.within c.loop-i.at k
+    Taken (table c.args.moves) c.args.moves.letters c.args.count c.args.total c.args.sets.now c.loop-i.within c.loop-i.at k
     (get_or c.args.firsts.now k 0) c.block_at-block.result
 taken c =
     let fact = c.requires.fact in
@@ -23,13 +23,13 @@ pub overflow_sub-at : goal.overflow_sub-at
 overflow_sub-at c = (taken (goal.at.overflow_sub-at c).After-block_at-block).begins
 
 pub overflow_add-at : goal.overflow_add-at
-overflow_add-at c = omega (arith, taken (goal.at.overflow_add-at c).After-block_at-block, c.requires.usable.1, c.well_formed)
+overflow_add-at c = omega (arith, taken (goal.at.overflow_add-at c).After-block_at-block, c.requires.enough, c.well_formed)
 
 pub narrow_block-kept-requires : goal.narrow_block-kept-requires
 narrow_block-kept-requires c =
     let block = taken (goal.at.narrow_block-kept-requires c).After-block_at-block in
     record {
-      usable = (c.requires.usable.0, block.formed.letters, block.formed.bounds);
+      formed = (block.formed.letters, block.formed.bounds);
       lower_in_bounds = (omega (arith, block), c.loop-i.invariant.inside);
       places = block.places;
       within_value = block.reached;

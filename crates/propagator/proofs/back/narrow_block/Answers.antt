@@ -3,11 +3,14 @@ use borrow.Author.Rules.{rules}
 use Rattle.propagator.proofs.Returning.{inside_both, within_is, block_returned, block_written}
 use Rattle.propagator.proofs.back.narrow_block.Goals as goal
 
-pub narrow_optional-optional-requires-clause-within_value : goal.narrow_optional-optional-requires-clause-within_value
-narrow_optional-optional-requires-clause-within_value c = (
-  within_is _ _ _ _ _ c.requires.places _ _ c.set_before-from.ensures c.requires.within_value,
-  inside_both _ _ (search rules) (search rules) c.requires.lower_in_bounds.1,
-)
+pub narrow_optional-optional-requires : goal.narrow_optional-optional-requires
+narrow_optional-optional-requires c =
+    record {
+      within_value = (
+        within_is _ _ _ _ _ c.requires.places _ _ c.set_before-from.ensures c.requires.within_value,
+        inside_both _ _ (search rules) (search rules) c.requires.lower_in_bounds.1,
+      );
+    }
 
 pub returns-clause-value : goal.returns-clause-value
 returns-clause-value c =

@@ -1,0 +1,11 @@
+use Rattle.std.specs.Option.{IfSome}
+use Rattle.propagator.specs.Table.{table}
+use Rattle.propagator.specs.Rows.{Becomes}
+use Rattle.propagator.proofs.Placing.{Placing}
+use Rattle.propagator.proofs.letters.Letters.narrow_places.Given as goal
+
+abbrev pub invariant-loop-j : goal.invariant-loop-j
+invariant-loop-j l = let t = table l.self.moves in record {
+  last : IfSome l.last (λ kept. Becomes t l.self.set kept.from kept.to kept);
+  placing : Placing t l.self.set l.first l.count l.end l.initial.bases l.initial.lowers l.initial.uppers l.entry l.bases l.lowers l.uppers l.states l.j;
+}
