@@ -35,24 +35,10 @@ entry_within xs i (suc j) h l = omega (arith, begins_within xs i h)
 
 -- ---- counting the entries of the blocks of a mask
 
--- the entries of the first i blocks are counted, of those before a block
-pub record Counting (ms : List ℕ) (block entry i : ℕ) : Type 0 where
-  pub within : i ≤ block
-  pub counted : entry ≡ begins (mask_of ms) i
-
--- none is counted yet
-pub counting_starts : (ms : List ℕ) (block : ℕ) → Counting ms block 0 0
-counting_starts ms block = record { within = omega arith; counted = go (mask_of ms) }
-  where
-    go : (xs : List Block) → 0 ≡ begins xs 0
-    go [] = refl
-    go (x ∷ xs) = refl
-
--- all are counted
-pub counting_ends : (ms : List ℕ) (block entry i : ℕ) → Counting ms block entry i → block ≤ i → entry ≡ begins (mask_of ms) block
-counting_ends ms block entry i counting h =
-    let same : i ≡ block = omega (arith, counting.within) in
-    rw same at counting.counted
+-- none is before the first block
+pub begins_first : (xs : List Block) → 0 ≡ begins xs 0
+begins_first [] = refl
+begins_first (x ∷ xs) = refl
 
 -- a mask that is not refused
 module _ (ms : List ℕ) (none : mask_refusal ms ≡ 0) where
@@ -73,13 +59,11 @@ module _ (ms : List ℕ) (none : mask_refusal ms ≡ 0) where
     pub optional_entry : (j : ℕ) → j ≡ 0 → first + x.lower ≡ entry_of (mask_of ms) i j
     optional_entry j z = rw (z, begin, is)
 
-  -- one block more
-  pub counting_more : (block entry i : ℕ) (x : Block) → Counting ms block entry i → i < block → block < count ms → x ≡ block_at (mask_of ms) i
-      → Counting ms block (entry + (x.lower + 1)) (i + 1)
-  counting_more block entry i x counting l h is =
-      let next : i + 1 ≡ suc i = omega arith in
-      let more = begins_more (mask_of ms) i (omega (arith, blocks_counted ms)) in
-      record { within = omega arith; counted = rw (next, is, counting.counted) (omega (arith, more)) }
+    -- and the next block's begin behind them
+    pub begins_next : first + (x.lower + 1) ≡ begins (mask_of ms) (i + 1)
+    begins_next =
+        let next : i + 1 ≡ suc i = omega arith in
+        rw (next, begin, is) (omega (arith, begins_more (mask_of ms) i (omega (arith, blocks_counted ms))))
 
 -- the entry of a place
 pub mandatory_entry : (xs : List Block) (i first j : ℕ) → first ≡ begins xs i → ¬ (j ≡ 0) → first + (j - 1) ≡ entry_of xs i j

@@ -1,61 +1,43 @@
 -- The verdict, from the states that are possible behind the last block and from the blocks of the normal form.
 -- Assumes nothing.
-use Prim.Native.Nat.{ℕ, suc, ◌+◌, ◌-◌, ◌^◌, ◌≤◌, ◌<◌}
-use mathlib.Core.Path.{◌≡◌, refl, ◌∙◌, sym}
+use Prim.Native.Nat.{ℕ, zero, suc, ◌+◌, ◌-◌, ◌^◌, ◌<◌}
+use mathlib.Core.Path.{◌≡◌, refl, ◌∙◌, sym, ap}
 use mathlib.Core.Bool.{Bool, true, false, not, ◌&&◌}
 use mathlib.Core.List.{List}
-use native.Mathlib.Numerals.{add-one}
 use native.Mathlib.Omega.{arith}
-use borrow.Author.Tests.{eq-eqb, ne_eqb}
 use lib.Bits.{and_le_l}
 use lib.Dec.{T_not, not_T}
+use lib.Dec.{eqb}
 use lib.ListN.{get_or}
+use Rattle.std.specs.List.{list_all, range_with_len}
+use Rattle.std.proofs.lemmas.List.{get_or-drop}
+use Rattle.model.specs.declared.Block.{Block}
 use Rattle.model.specs.declared.Verdict.TheVariants.{All, One, Some}
+use Rattle.model.specs.DashedString.{values}
 use Rattle.model.specs.Set.{has, both, some_member, one_member}
 use Rattle.model.specs.Verdict.{single, every, say}
 use Rattle.model.proofs.Set.{member, in_both, some_member_lem}
 use Rattle.model.proofs.Demand3.{stable}
 use Rattle.bitset.proofs.Laws.{decided, same_members}
-use Rattle.records.specs.Written.{numbered, blocks_between, Enough}
-use Rattle.records.proofs.Copies.{between_cons}
+use Rattle.records.specs.Written.{blocks_between}
 
 -- ---- single blocks
 
--- whether each block is single is whether each from entry i on is
-pub record Singling (b l u : List ℕ) (first end i : ℕ) : Type 0 where
-  pub within : i ≤ end
-  pub same : every single (blocks_between b l u i end) ≡ every single (blocks_between b l u first end)
+-- whether each of n numbers passes a test is whether each of n blocks is single, where the test says so of each
+single_numbers : (test : ℕ → Bool) (f : ℕ → Block) (i n : ℕ) → ((j : ℕ) → test (i + j) ≡ single (f j))
+    → list_all test (range_with_len i n) ≡ every single (values f n)
+unfolding every
+single_numbers test f i zero h = refl
+single_numbers test f i (suc n) h =
+    let first : test i ≡ single (f 0) = ap test (omega arith) ∙ h 0 in
+    rw (first, single_numbers test (λ j. f (suc j)) (i + 1) n (λ j. ap test (omega arith) ∙ h (suc j)))
 
--- no block is looked at yet
-pub singling_starts : (b l u : List ℕ) (first end : ℕ) → first ≤ end → Singling b l u first end first
-singling_starts b l u first end h = record { within = h; same = refl }
-
-module _ (b l u : List ℕ) (first end i : ℕ) (singling : Singling b l u first end i) where
-  module _ (enough : Enough b l u end) (h : i < end) where
-    -- the next block decides, and then the others
-    front : (single (numbered b l u i) && every single (blocks_between b l u (suc i) end)) ≡ every single (blocks_between b l u first end)
-    unfolding every
-    front = rw (between_cons b l u i end h enough) at singling.same
-
-    -- its bounds differ
-    pub singling_apart : ¬ (get_or l i 0 ≡ get_or u i 0) → false ≡ every single (blocks_between b l u first end)
-    unfolding single
-    singling_apart n = rw (ne_eqb (get_or l i 0) (get_or u i 0) n) at front
-
-    -- they do not, and it has one letter, or not
-    module _ (e : get_or l i 0 ≡ get_or u i 0) where
-      pub singling_many : one_member (get_or b i 0) ≡ false → false ≡ every single (blocks_between b l u first end)
-      unfolding single
-      singling_many o = rw (eq-eqb (get_or l i 0) (get_or u i 0) e, o) at front
-
-      pub singling_more : one_member (get_or b i 0) ≡ true → Singling b l u first end (i + 1)
-      unfolding single
-      singling_more o = record { within = omega arith; same = rw (add-one i) (rw (eq-eqb (get_or l i 0) (get_or u i 0) e, o) at front) }
-
-  -- none is left
-  pub singling_ends : end ≤ i → true ≡ every single (blocks_between b l u first end)
-  unfolding every
-  singling_ends h = let none : end - i ≡ 0 = omega arith in rw none at singling.same
+-- the blocks of three slices from entry i up to end
+pub single_entries : (b l u : List ℕ) (i end : ℕ)
+    → list_all (λ j. eqb (get_or l j 0) (get_or u j 0) && one_member (get_or b j 0)) (range_with_len i (end - i))
+    ≡ every single (blocks_between b l u i end)
+unfolding single
+single_entries b l u i end = single_numbers _ _ i (end - i) (λ j. simp get_or-drop)
 
 -- ---- legal codes and others
 

@@ -1,6 +1,7 @@
 -- What the passes need of a book and blocks that are ready for them, and what they find.
 -- Assumes nothing.
-use Prim.Native.Nat.{ℕ, ◌-◌, ◌*◌, ◌^◌, ◌≤◌, ◌<◌}
+use Rattle.std.proofs.Common.{lit≤}
+use Prim.Native.Nat.{ℕ, ◌+◌, ◌-◌, ◌*◌, ◌^◌, ◌≤◌, ◌<◌}
 use mathlib.Core.Path.{◌≡◌}
 use mathlib.Core.Bool.{true, false}
 use mathlib.Core.List.{List}
@@ -34,6 +35,10 @@ module _ (bs : List ℕ) (xs : List Block) (p : Pair) (ready : Ready bs xs p) wh
   -- at most 1,024 blocks, with upper bounds that sum to at most 1,024
   pub few_blocks : (p.mask.blocks ≤ 1024) × (p.mask.uppers ≤ 1024)
   few_blocks = rw ready.numbers (ready.few, (blocks_bounds xs ready.mask).1)
+
+  -- for which there is room of the largest size
+  pub few_room : (p.mask.blocks ≤ 1024) × (p.mask.uppers ≤ 1024) × (1024 + 1024 ≤ 2048) × (2048 ≤ 2048)
+  few_room = let (blocks, uppers) = few_blocks in (blocks, uppers, lit≤ tt, lit≤ tt)
 
   -- the start is a state, and the moves are there
   pub book_moves : (p.book.states < 64) × (p.book.start < p.book.states) × (p.book.states * p.book.letters ≤ length moves)

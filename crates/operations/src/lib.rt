@@ -17,7 +17,7 @@ mod placing;
 use answer::write_tidied;
 use listed::narrow_table;
 use model::{Block, Verdict};
-use narrowing::{narrow_large, narrow_small};
+use narrowing::narrow_sized;
 use pair::{PairOrRefusal, pair_number, read_pair};
 use placing::{missing, place_entry};
 use records::MaskOrRefusal;
@@ -60,9 +60,9 @@ pub fn narrow(book: &[u8], mask: &[u8], out: &mut [u8]) -> NarrowAnswer
         return NarrowAnswer::Refused(pair_number(got));
     };
     if pair.mask.blocks <= 64 && pair.mask.uppers <= 64 {
-        return narrow_small(pair, book, mask, out);
+        return narrow_sized::<64, 128>(pair, book, mask, out);
     }
-    narrow_large(pair, book, mask, out)
+    narrow_sized::<1024, 2048>(pair, book, mask, out)
 }
 
 // Narrow on a mask that is lent as a list of blocks. Book checks, 4, 7, 8, 9, 10. It copies the first 1,024 blocks; all else is

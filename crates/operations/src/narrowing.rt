@@ -1,5 +1,5 @@
 // Narrow on a book and a mask that pass the checks: the passes, the normal form, the verdict and the answer.
-ghost use Rattle.std.specs.Prelude.{true, not, ◌≡◌, ◌≤◌};
+ghost use Rattle.std.specs.Prelude.{true, not, ◌≡◌, ◌+◌, ◌≤◌};
 ghost use Rattle.model.specs.Set.{has, some_member};
 ghost use Rattle.model.specs.NormalForm.{normal};
 ghost use Rattle.model.specs.Verdict.{single, every, say};
@@ -22,17 +22,7 @@ fn all_single(bases: &[u64], lowers: &[u16], uppers: &[u16], first: usize, end: 
     requires first_le_end { first ≤ end }
     ensures { result ≡ every single (blocks_between bases.now lowers.now uppers.now first end) }
 {
-    let mut i = first;
-    while i < end {
-        if lowers[i] != uppers[i] {
-            return false;
-        }
-        if !bitset::one_member(bases[i]) {
-            return false;
-        }
-        i += 1;
-    }
-    true
+    (first..end).all(|i| lowers[i] == uppers[i] && bitset::one_member(bases[i]))
 }
 
 // The verdict where some code is legal: all, where each state that is possible behind the last block accepts; one, where each
@@ -133,42 +123,22 @@ fn narrow_in(
     narrow_blocks(pair, book, bases, lowers, uppers, firsts, sets, known, out)
 }
 
-// Narrow in room for at most 64 blocks whose upper bounds sum to at most 64.
-pub(crate) fn narrow_small(pair: Pair, book: &[u8], mask: &[u8], out: &mut [u8]) -> NarrowAnswer
+// Narrow in room for at most MOST blocks whose upper bounds sum to at most MOST; ROOM is twice as much.
+pub(crate) fn narrow_sized<const MOST: usize, const ROOM: usize>(
+    pair: Pair,
+    book: &[u8],
+    mask: &[u8],
+    out: &mut [u8],
+) -> NarrowAnswer
     requires mask_value { read_pair book.now mask.now ≡ Accepted pair }
-    requires blocks_bound { (pair.mask.blocks ≤ 64) × (pair.mask.uppers ≤ 64) }
+    requires room { (pair.mask.blocks ≤ MOST) × (pair.mask.uppers ≤ MOST) × (MOST + MOST ≤ ROOM) × (ROOM ≤ 2048) }
     ensures { Narrows (from_record book.now mask.now) out.old out.new result }
 {
-    let mut bases = [0u64; 128];
-    let mut lowers = [0u16; 128];
-    let mut uppers = [0u16; 128];
-    let mut firsts = [0u64; 64];
-    let mut sets = [0u64; 64];
-    let mut known = [0u64; 133];
-    narrow_in(
-        pair,
-        book,
-        mask,
-        &mut bases,
-        &mut lowers,
-        &mut uppers,
-        &mut firsts,
-        &mut sets,
-        &mut known,
-        out,
-    )
-}
-
-// Narrow in room for every mask.
-pub(crate) fn narrow_large(pair: Pair, book: &[u8], mask: &[u8], out: &mut [u8]) -> NarrowAnswer
-    requires { read_pair book.now mask.now ≡ Accepted pair }
-    ensures { Narrows (from_record book.now mask.now) out.old out.new result }
-{
-    let mut bases = [0u64; 2048];
-    let mut lowers = [0u16; 2048];
-    let mut uppers = [0u16; 2048];
-    let mut firsts = [0u64; 1024];
-    let mut sets = [0u64; 1024];
+    let mut bases = [0u64; ROOM];
+    let mut lowers = [0u16; ROOM];
+    let mut uppers = [0u16; ROOM];
+    let mut firsts = [0u64; MOST];
+    let mut sets = [0u64; MOST];
     let mut known = [0u64; 133];
     narrow_in(
         pair,

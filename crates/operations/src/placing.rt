@@ -19,13 +19,7 @@ pub(crate) fn missing(mask: &[u8], blocks: usize, block: usize, place: usize) ->
     requires { (blocks ≡ count mask.now) × (6 + 12 * blocks ≤ length mask.now) }
     ensures { result ≡ absent (mask_of mask.now) block place }
 {
-    if block == 0 {
-        return true;
-    }
-    if blocks < block {
-        return true;
-    }
-    (records::read_block(mask, block - 1).lower as usize) < place
+    block == 0 || blocks < block || (records::read_block(mask, block - 1).lower as usize) < place
 }
 
 // Where the entries of a block, from 0, begin in the narrowed list: each block before has l + 1 of them.
@@ -34,11 +28,8 @@ fn first_entry(mask: &[u8], block: usize) -> usize
     ensures { result ≡ begins (mask_of mask.now) block }
 {
     let mut entry = 0;
-    let mut i = 0;
-    while i < block {
-        let lower = records::read_block(mask, i).lower as usize;
-        entry += lower + 1;
-        i += 1;
+    for i in 0..block {
+        entry += records::read_block(mask, i).lower as usize + 1;
     }
     entry
 }
@@ -63,52 +54,29 @@ pub(crate) fn place_entry(pair: Pair, book: &[u8], mask: &[u8], block: usize, pl
     ensures { result ≡ placed (book_of book.now) (mask_of mask.now) block place }
 {
     let entry = entry_of(mask, block - 1, place);
-    if pair.mask.blocks <= 64 {
-        if pair.mask.uppers <= 64 {
-            return place_small(pair, book, mask, entry);
-        }
+    if pair.mask.blocks <= 64 && pair.mask.uppers <= 64 {
+        return place_sized::<64, 128>(pair, book, mask, entry);
     }
-    place_large(pair, book, mask, entry)
+    place_sized::<1024, 2048>(pair, book, mask, entry)
 }
 
-// An entry of the narrowed list of a mask of at most 64 blocks, with uppers that sum to at most 64.
-fn place_small(pair: Pair, book: &[u8], mask: &[u8], entry: usize) -> Block
+// An entry of the narrowed list, in room for at most MOST blocks whose upper bounds sum to at most MOST; ROOM is twice as much.
+fn place_sized<const MOST: usize, const ROOM: usize>(
+    pair: Pair,
+    book: &[u8],
+    mask: &[u8],
+    entry: usize,
+) -> Block
     requires mask_value { read_pair book.now mask.now ≡ Accepted pair }
     requires bound { entry < lower_sum (mask_of mask.now) + pair.mask.blocks }
-    requires blocks_bound { (pair.mask.blocks ≤ 64) × (pair.mask.uppers ≤ 64) }
+    requires room { (pair.mask.blocks ≤ MOST) × (pair.mask.uppers ≤ MOST) × (MOST + MOST ≤ ROOM) × (ROOM ≤ 2048) }
     ensures { result ≡ entry_at (book_of book.now) (mask_of mask.now) entry }
 {
-    let mut bases = [0u64; 128];
-    let mut lowers = [0u16; 128];
-    let mut uppers = [0u16; 128];
-    let mut firsts = [0u64; 64];
-    let mut sets = [0u64; 64];
-    let mut known = [0u64; 133];
-    place_in(
-        pair,
-        book,
-        mask,
-        entry,
-        &mut bases,
-        &mut lowers,
-        &mut uppers,
-        &mut firsts,
-        &mut sets,
-        &mut known,
-    )
-}
-
-// An entry of the narrowed list of any mask.
-fn place_large(pair: Pair, book: &[u8], mask: &[u8], entry: usize) -> Block
-    requires mask_value { read_pair book.now mask.now ≡ Accepted pair }
-    requires bound { entry < lower_sum (mask_of mask.now) + pair.mask.blocks }
-    ensures { result ≡ entry_at (book_of book.now) (mask_of mask.now) entry }
-{
-    let mut bases = [0u64; 2048];
-    let mut lowers = [0u16; 2048];
-    let mut uppers = [0u16; 2048];
-    let mut firsts = [0u64; 1024];
-    let mut sets = [0u64; 1024];
+    let mut bases = [0u64; ROOM];
+    let mut lowers = [0u16; ROOM];
+    let mut uppers = [0u16; ROOM];
+    let mut firsts = [0u64; MOST];
+    let mut sets = [0u64; MOST];
     let mut known = [0u64; 133];
     place_in(
         pair,

@@ -1,24 +1,16 @@
 -- `operations::narrowing::all_single` meets its contract.
-use mathlib.Core.Path.{◌∙◌, sym}
-use native.Mathlib.Omega.{arith}
-use Rattle.operations.proofs.Judging.{singling_starts, singling_apart, singling_many, singling_more, singling_ends}
+use Rattle.std.proofs.Common.{rules, tests, ◌∙◌, ◌&&◌, refl, eqb, get_or}
+use Rattle.std.proofs.lemmas.Iterator.{YieldsList-from_range}
+use Rattle.std.proofs.lemmas.Iterator.Search.{all_from_yields_List}
+use Rattle.model.specs.Set.{one_member}
+use Rattle.operations.proofs.Judging.{single_entries}
 use Rattle.operations.proofs.narrowing.all_single.Goals as goal
 
-pub loop-i-init : goal.loop-i-init
-loop-i-init c = singling_starts _ _ _ _ _ (omega arith)
-
-pub returns-then-lowers-i : goal.returns-then-lowers-i
-returns-then-lowers-i c = singling_apart _ _ _ _ _ _ c.loop-i.invariant (omega arith) (omega arith) c.if-lowers-i.true
-
-pub returns-then-not-one_member : goal.returns-then-not-one_member
-returns-then-not-one_member c =
-    let inv = c.loop-i.invariant in
-    singling_many _ _ _ _ _ _ inv (omega arith) (omega arith) c.if-lowers-i.false (sym c.one_member.ensures ∙ c.if-not-one_member.true)
-
-pub loop-i-preserved : goal.loop-i-preserved
-loop-i-preserved c =
-    let inv = c.loop-i.invariant in
-    singling_more _ _ _ _ _ _ inv (omega arith) (omega arith) c.if-lowers-i.false (sym c.one_member.ensures ∙ c.if-not-one_member.false)
-
 pub returns : goal.returns
-returns c = singling_ends _ _ _ _ _ _ c.loop-i.invariant (omega arith)
+returns c =
+    let b = c.args.bases.now in
+    let l = c.args.lowers.now in
+    let u = c.args.uppers.now in
+    all_from_yields_List (λ j. eqb (get_or l j 0) (get_or u j 0) && one_member (get_or b j 0)) _ _ _ c.all.ensures.ran
+    (YieldsList-from_range c.args.first c.args.end _ refl refl) (λ x t q k. search (rules, tests))
+    ∙ single_entries b l u c.args.first c.args.end

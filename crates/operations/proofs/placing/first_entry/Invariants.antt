@@ -1,9 +1,7 @@
-use Prim.Native.Nat.{◌-◌}
-use Rattle.operations.proofs.EntryNumbers.{Counting}
+use Rattle.std.proofs.Common.{◌≡◌}
+use Rattle.model.specs.Place.{begins}
+use Rattle.records.specs.Mask.{mask_of}
 use Rattle.operations.proofs.placing.first_entry.Given as goal
 
 abbrev pub invariant-loop-i : goal.invariant-loop-i
-invariant-loop-i l = Counting l.mask l.block l.entry l.i
-
-abbrev pub decreases-loop-i : goal.decreases-loop-i
-decreases-loop-i l = l.block - l.i
+invariant-loop-i l = l.entry ≡ begins (mask_of l.mask) l.i
