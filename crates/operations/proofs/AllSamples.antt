@@ -9,7 +9,8 @@ use Rattle.model.specs.Verdict.{narrowed_mask, single, every, some_legal, some_i
 use Rattle.model.specs.Place.{place}
 use Rattle.model.specs.Membership.{contains, within, piece, spells, accepts}
 use Rattle.records.specs.Bytes.{number_at, bytes_of, over}
-use Rattle.records.specs.Check.{refuse, some, unframed}
+use Rattle.model.specs.Refusal.{refuse}
+use Rattle.records.specs.Check.{some, unframed}
 use Rattle.records.specs.Book.{book_head, moves_of, out_of_range, unnamed, book_checks}
 use Rattle.records.specs.Mask.{block_from, blocks_from, mask_of, blocks_refusal, mask_refusal, foreign}
 use Rattle.records.specs.Written.{block_bytes, blocks_bytes, head_bytes, mask_bytes}

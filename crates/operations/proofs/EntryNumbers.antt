@@ -6,6 +6,7 @@ use mathlib.Core.List.{List, [], ◌∷◌}
 use native.Mathlib.Omega.{arith}
 use lib.ListN.{length}
 use Rattle.model.specs.declared.Block.{Block}
+use Rattle.model.specs.Refusal.{accepted}
 use Rattle.model.specs.DashedString.{block_at}
 use Rattle.model.specs.Place.{begins, entry_of}
 use Rattle.model.specs.Size.{lower_sum}
@@ -41,7 +42,7 @@ begins_first [] = refl
 begins_first (x ∷ xs) = refl
 
 -- a mask that is not refused
-module _ (ms : List ℕ) (none : mask_refusal ms ≡ 0) where
+module _ (ms : List ℕ) (none : mask_refusal ms ≡ accepted) where
   -- holds the bytes of its blocks
   pub mask_long : 6 + 12 * count ms ≤ length ms
   mask_long = omega (arith, (mask_record ms none).size)

@@ -6,7 +6,7 @@ pub mod Pairs
 pub mod Putting
 pub mod Passing
 pub mod Judging
-pub mod Narrowed
+pub mod NarrowPromise
 pub mod Lists
 pub mod Filled
 pub mod Told

@@ -1,16 +1,15 @@
--- Checks in order: which of them decides.
+-- Checks in order, and answers that are refusals: what each tells of the others.
 -- Assumes nothing.
-use Prim.Native.Nat.{ℕ, zero, suc, ◌<◌}
-use mathlib.Core.Path.{◌≡◌, refl}
-use native.Mathlib.Omega.{arith}
-use Rattle.operations.specs.Order.{and_then}
-
--- a refusal by the first checks
-pub refused_first : (r next : ℕ) → 0 < r → and_then r next ≡ r
-refused_first zero next h = absurd (omega arith)
-refused_first (suc r) next h = refl
+use Rattle.std.proofs.Common.{◌≡◌, Option, None, Some, Err, refl}
+use Rattle.model.specs.declared.Refusal.{Refusal}
+use Rattle.model.specs.Refusal.{accepted, and_then, unless}
 
 -- where nothing is refused, neither the first checks nor the next ones refuse
-pub passed_first : (r next : ℕ) → and_then r next ≡ 0 → (r ≡ 0) × (next ≡ 0)
-passed_first zero next h = (refl, h)
-passed_first (suc r) next h = absurd (omega arith)
+pub passed_first : (r next : Option Refusal) → and_then r next ≡ accepted → (r ≡ accepted) × (next ≡ accepted)
+passed_first None next h = (refl, h)
+passed_first (Some r) next h = cc
+
+-- the same refusal, in place of another value
+pub same_refusal : {A B : Type 0} (o : Option Refusal) (x : A) (y : B) (r : Refusal) → Err r ≡ unless o x → Err r ≡ unless o y
+same_refusal None x y r e = cc
+same_refusal (Some s) x y r e = let same : r ≡ s = cc in rw same

@@ -1,6 +1,8 @@
 -- What place promises, from what its steps give.
 -- Assumes nothing.
 use Prim.Native.Nat.{ℕ, zero, suc, ◌+◌, ◌-◌, ◌^◌, ◌≤◌, ◌<◌}
+use Rattle.std.proofs.Common.{Option, None, Some, Ok, Err}
+use Rattle.std.specs.Option.{option_map_or}
 use mathlib.Core.Path.{◌≡◌, refl, ◌∙◌, sym}
 use mathlib.Core.Logic.{◌↔◌}
 use mathlib.Core.Bool.{Bool, true, false, ◌||◌}
@@ -10,6 +12,9 @@ use borrow.Author.Tests.{lt-ltb, le-ltb, ltb-false, eq-eqb, ne_eqb, eqb-false}
 use lib.Dec.{eqb, ltb}
 use lib.ListN.{length}
 use Rattle.model.specs.declared.Block.{Block}
+use Rattle.model.specs.declared.Refusal.{Refusal}
+use Rattle.model.specs.declared.Refusal.TheVariants.{Missing}
+use Rattle.model.specs.Refusal.{number, accepted, unless}
 use Rattle.model.specs.Set.{Member, both}
 use Rattle.model.specs.DashedString.{block, block_at}
 use Rattle.model.specs.Automaton.{Dfa}
@@ -27,14 +32,10 @@ use Rattle.records.proofs.Offsets.{blocks_counted}
 use Rattle.records.proofs.WellFormed.{mask_record, checked}
 use Rattle.propagator.proofs.Slices.{entry_at_lem}
 use Rattle.operations.specs.declared.pair.Pair.{Pair}
-use Rattle.operations.specs.declared.pair.PairOrRefusal.{PairOrRefusal}
-use Rattle.operations.specs.declared.pair.PairOrRefusal.TheVariants as pairAnswer
-use Rattle.operations.specs.declared.PlaceAnswer.TheVariants.{Placed, Refused}
-use Rattle.operations.specs.Pair.{from_record, pair_refusal, read_pair, pair_number}
+use Rattle.operations.specs.Pair.{from_record, pair_refusal, read_pair}
 use Rattle.operations.specs.Passes.{Found}
-use Rattle.operations.specs.Placed.{missing, place_refusal, entry_at, place_or, placed, place_numbers, Places}
+use Rattle.operations.specs.Placed.{missing, place_refusal, entry_at, placed, place_numbers, Places}
 use Rattle.operations.proofs.EntryNumbers.{entry_within}
-use Rattle.operations.proofs.Order.{refused_first}
 use Rattle.operations.proofs.Pairs.{given_refused, given_accepted, given_checks, pair_ready}
 use Rattle.operations.proofs.Passing.{found_legal}
 
@@ -70,14 +71,17 @@ none_missing xs i j h =
 -- ---- the answer
 
 -- a refusal
-refusing : (bs ms : List ℕ) (i j r : ℕ) → place_refusal bs ms i j ≡ r → 0 < r → Places bs ms i j (Refused r)
+refusing : (bs ms : List ℕ) (i j : ℕ) (r : Refusal) → place_refusal bs ms i j ≡ Some r → Places bs ms i j (Err r)
 unfolding placed
-refusing bs ms i j zero e h = absurd (omega arith)
-refusing bs ms i j (suc r) e h =
-    record { answer = rw e; letters = λ x is. absurd (let z : ◌≡◌ {A = ℕ} 0 1 = cc in omega arith) }
+refusing bs ms i j r e = record { answer = rw e; letters = λ x is. cc }
+
+-- the book or the mask is refused
+pub place_refused : (bs ms : List ℕ) (i j : ℕ) (r : Refusal) → read_pair bs ms ≡ Err r → Places bs ms i j (Err r)
+unfolding place_refusal
+place_refused bs ms i j r e = refusing bs ms i j r (rw (given_refused (from_record bs ms) r e))
 
 -- a letter is in the set of a mandatory place exactly when some legal code, in some cut, has it there
-place_letters : (bs ms : List ℕ) (i j : ℕ) → pair_refusal bs ms ≡ 0 → missing (mask_of ms) i j ≡ false → 0 < j
+place_letters : (bs ms : List ℕ) (i j : ℕ) → pair_refusal bs ms ≡ accepted → missing (mask_of ms) i j ≡ false → 0 < j
     → (c : ℕ) → Member c (place (book_of bs) (mask_of ms) i j).base ↔ Has (book_of bs) (mask_of ms) (Puts c (i - 1) (j - 1))
 place_letters bs ms zero j none h l c = absurd (omega (arith, (none_missing (mask_of ms) 0 j h).0))
 place_letters bs ms (suc i) zero none h l c = absurd (omega arith)
@@ -87,40 +91,28 @@ place_letters bs ms (suc i) (suc j) none h l c =
     let (_, within, lower) = rw (back i) at (none_missing (mask_of ms) (suc i) (suc j) h) in
     rw (back i, back j) ((demand_3 (book_of bs) (mask_of ms) (checked bs (mask_of ms) book (mask_record ms mask).bounds)).places i j c within (omega arith))
 
--- the set and bounds
-answering : (bs ms : List ℕ) (i j : ℕ) → pair_refusal bs ms ≡ 0 → missing (mask_of ms) i j ≡ false
-    → Places bs ms i j (Placed (place (book_of bs) (mask_of ms) i j))
-unfolding place_refusal placed
-answering bs ms i j none h =
-    let passes : place_refusal bs ms i j ≡ 0 = rw none (off _ 11 0 h) in
-    record {
-      answer = rw passes;
-      letters =
-          λ x is l c.
-          let same : place (book_of bs) (mask_of ms) i j ≡ x = cc in
-          rw same at (place_letters bs ms i j none h l c);
-    }
+-- a book and a mask that are accepted
+module _ (bs ms : List ℕ) (i j : ℕ) (p : Pair) (read : read_pair bs ms ≡ Ok p) where
+  none : pair_refusal bs ms ≡ accepted
+  none = (given_accepted (from_record bs ms) p read).0
 
-module _ (bs ms : List ℕ) (i j : ℕ) (got : PairOrRefusal) (read : got ≡ read_pair bs ms) where
-  -- the book or the mask is refused
-  pub place_refused : (n r : ℕ) → got ≡ pairAnswer.Refused n → r ≡ pair_number got → Places bs ms i j (Refused r)
+  -- the block or its place is missing
+  pub place_missing : missing (mask_of ms) i j ≡ true → Places bs ms i j (Err Missing)
   unfolding place_refusal
-  place_refused n r is e =
-      let (same, l) = given_refused (from_record bs ms) n (sym read ∙ is) in
-      rw (e, is) (refusing bs ms i j n (rw (same, refused_first n _ l)) l)
+  place_missing h = refusing bs ms i j Missing (rw none (on _ Missing accepted h))
 
-  module _ (p : Pair) (is : got ≡ pairAnswer.Accepted p) where
-    none : pair_refusal bs ms ≡ 0
-    none = (given_accepted (from_record bs ms) p (sym read ∙ is)).0
-
-    -- the block or its place is missing
-    pub place_missing : missing (mask_of ms) i j ≡ true → Places bs ms i j (Refused 11)
-    unfolding place_refusal
-    place_missing h = refusing bs ms i j 11 (rw none (on _ 11 0 h)) (omega arith)
-
-    -- they are there
-    pub place_answers : (x : Block) → missing (mask_of ms) i j ≡ false → x ≡ place (book_of bs) (mask_of ms) i j → Places bs ms i j (Placed x)
-    place_answers x h e = rw e (answering bs ms i j none h)
+  -- they are there
+  pub place_answers : (x : Block) → missing (mask_of ms) i j ≡ false → x ≡ place (book_of bs) (mask_of ms) i j → Places bs ms i j (Ok x)
+  unfolding place_refusal placed
+  place_answers x h e =
+      let passes : place_refusal bs ms i j ≡ accepted = rw none (off _ Missing accepted h) in
+      record {
+        answer = rw (passes, e);
+        letters =
+            λ y is l c.
+            let same : place (book_of bs) (mask_of ms) i j ≡ y = cc in
+            rw same at (place_letters bs ms i j none h l c);
+      }
 
 -- ---- the entry
 
@@ -141,9 +133,9 @@ module _ (b : Dfa) (xs : List Block) (n : ℕ) where
       go true false = refl
 
 -- a book and a mask that are accepted
-module _ (bs ms : List ℕ) (p : Pair) (read : read_pair bs ms ≡ pairAnswer.Accepted p) where
+module _ (bs ms : List ℕ) (p : Pair) (read : read_pair bs ms ≡ Ok p) where
   -- the mask is not refused
-  pub pair_mask_none : mask_refusal ms ≡ 0
+  pub pair_mask_none : mask_refusal ms ≡ accepted
   pair_mask_none = (given_checks (from_record bs ms) (given_accepted (from_record bs ms) p read).0).1
 
   -- a block number and a place that are not missing
@@ -174,10 +166,10 @@ module _ (bs ms : List ℕ) (p : Pair) (read : read_pair bs ms ≡ pairAnswer.Ac
         is ∙ sym (entry_at_lem bases lowers uppers k n h) ∙ rw (found.list (rw legal tt)) (entry_some (book_of bs) (mask_of ms) n legal)
 
 -- the refusal number at the host is that of the checks
-pub place_refusal_number : (bs ms : List ℕ) (i j : ℕ) → (place_numbers (placed bs ms i j)).refusal ≡ place_refusal bs ms i j
+pub place_refusal_number : (bs ms : List ℕ) (i j : ℕ) → (place_numbers (placed bs ms i j)).refusal ≡ option_map_or number (place_refusal bs ms i j) 0
 unfolding placed
 place_refusal_number bs ms i j = go (place_refusal bs ms i j)
   where
-    go : (r : ℕ) → (place_numbers (place_or (place (book_of bs) (mask_of ms) i j) r)).refusal ≡ r
-    go zero = refl
-    go (suc r) = refl
+    go : (o : Option Refusal) → (place_numbers (unless o (place (book_of bs) (mask_of ms) i j))).refusal ≡ option_map_or number o 0
+    go None = refl
+    go (Some r) = refl

@@ -1,5 +1,4 @@
 -- What the operations answer and write, for all inputs (01, "The four operations and when they turn back").
-pub mod Order
 pub mod Pair
 pub mod Buffer
 pub mod Passes

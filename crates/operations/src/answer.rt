@@ -6,8 +6,10 @@ ghost use Rattle.records.specs.Written.{mask_bytes, blocks_between, Enough};
 ghost use Rattle.operations.specs.Buffer.{Puts};
 ghost use Rattle.operations.specs.Tidy.{tidy_record};
 
+use model::Refusal;
+
 // Writes the blocks from entry `first` up to `end` of the three slices as a record over the first bytes of `out`, and returns
-// how many bytes that is. Check 10: where the buffer is shorter it writes nothing and returns 0.
+// how many bytes that is. Check 10: where the buffer is shorter it writes nothing.
 pub(crate) fn write_answer(
     bases: &[u64],
     lowers: &[u16],
@@ -15,7 +17,7 @@ pub(crate) fn write_answer(
     first: usize,
     end: usize,
     out: &mut [u8],
-) -> u32
+) -> Result<u32, Refusal>
     requires enough { Enough bases.now lowers.now uppers.now end }
     requires first_le_end { (first ≤ end) × (end ≤ 2048) }
     ensures { let answer = mask_bytes (blocks_between bases.now lowers.now uppers.now first end) in
@@ -23,7 +25,7 @@ pub(crate) fn write_answer(
 {
     let count = end - first;
     if out.len() < 6 + 12 * count {
-        return 0;
+        return Err(Refusal::Room);
     }
     let size = records::write_mask(
         &bases[first..],
@@ -32,7 +34,7 @@ pub(crate) fn write_answer(
         count,
         out,
     );
-    size as u32
+    Ok(size as u32)
 }
 
 // Writes the normal form of a mask over the first bytes of `out`, where they have room for it. The three slices are room for
@@ -44,7 +46,7 @@ pub(crate) fn write_tidied(
     lowers: &mut [u16],
     uppers: &mut [u16],
     out: &mut [u8],
-) -> u32
+) -> Result<u32, Refusal>
     requires blocks_value { (blocks ≡ count mask.now) × (6 + 12 * blocks ≤ length mask.now) }
     requires blocks_bound { (blocks ≤ 1024) × Room 64 (mask_of mask.now) }
     requires enough { Enough bases.old lowers.old uppers.old blocks }

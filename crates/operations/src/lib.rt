@@ -15,129 +15,108 @@ mod passes;
 mod placing;
 
 use answer::write_tidied;
-use listed::narrow_table;
-use model::{Block, Verdict};
-use narrowing::narrow_sized;
-use pair::{PairOrRefusal, pair_number, read_pair};
+use listed::unpack;
+use model::{Block, Refusal, Verdict};
+use narrowing::{narrow_blocks, narrow_sized};
+use pair::{read_pair, with_mask};
 use placing::{missing, place_entry};
-use records::MaskOrRefusal;
 
-// What narrow answers: the verdict and the bytes written, or the refusal.
+// What narrow answers: the verdict, and how many bytes it wrote.
 #[derive(Clone, Copy)]
-pub enum NarrowAnswer {
-    Narrowed { verdict: Verdict, bytes: u32 },
-    Refused(u32),
+pub struct Narrowed {
+    pub verdict: Verdict,
+    pub bytes: u32,
 }
 
-// What place answers: the set and bounds of an entry of the narrowed list, or the refusal.
+// What try answers: whether the mask spells the code, and whether the book accepts it.
 #[derive(Clone, Copy)]
-pub enum PlaceAnswer {
-    Placed(Block),
-    Refused(u32),
-}
-
-// What tidy answers: the bytes written, or the refusal.
-#[derive(Clone, Copy)]
-pub enum TidyAnswer {
-    Written(u32),
-    Refused(u32),
-}
-
-// What try answers: whether the mask spells the code and whether the book accepts it, or the refusal.
-#[derive(Clone, Copy)]
-pub enum TryAnswer {
-    Tried { mask: bool, book: bool },
-    Refused(u32),
+pub struct Tried {
+    pub mask: bool,
+    pub book: bool,
 }
 
 // Narrow: the verdict on a book and a mask, with the narrowed mask written over the first bytes of `out`; for none nothing is
 // written. Book checks, mask checks, 9, 10. A small mask takes little of the stack.
-pub fn narrow(book: &[u8], mask: &[u8], out: &mut [u8]) -> NarrowAnswer
+pub fn narrow(book: &[u8], mask: &[u8], out: &mut [u8]) -> Result<Narrowed, Refusal>
     ensures { Narrows (from_record book.now mask.now) out.old out.new result }
 {
-    let got = read_pair(book, mask);
-    let PairOrRefusal::Accepted(pair) = got else {
-        return NarrowAnswer::Refused(pair_number(got));
-    };
+    let pair = read_pair(book, mask)?;
     if pair.mask.blocks <= 64 && pair.mask.uppers <= 64 {
         return narrow_sized::<64, 128>(pair, book, mask, out);
     }
     narrow_sized::<1024, 2048>(pair, book, mask, out)
 }
 
-// Narrow on a mask that is lent as a list of blocks. Book checks, 4, 7, 8, 9, 10. It copies the first 1,024 blocks; all else is
-// `narrow_table`'s.
-pub fn narrow_list(book: &[u8], blocks: &[Block], out: &mut [u8]) -> NarrowAnswer
+// Narrow on a mask that is lent as a list of blocks. Book checks, 4, 7, 8, 9, 10.
+pub fn narrow_list(book: &[u8], blocks: &[Block], out: &mut [u8]) -> Result<Narrowed, Refusal>
     ensures { Narrows (from_list book.now blocks.now) out.old out.new result }
 {
+    let head = records::read_book(book)?;
     let count = blocks.len();
-    let mut table = [Block {
-        base: 0,
-        lower: 0,
-        upper: 0,
-    }; 1024];
-    let mut i = 0;
-    while i < 1024 {
-        if i < count {
-            table[i] = blocks[i];
-        }
-        i += 1;
+    if 1024 < count {
+        return Err(Refusal::OutOfRange);
     }
-    narrow_table(book, table, count, out)
+    let mut bases = [0u64; 2048];
+    let mut lowers = [0u16; 2048];
+    let mut uppers = [0u16; 2048];
+    unpack(blocks, &mut bases, &mut lowers, &mut uppers);
+    let mask = records::check_blocks(&bases, &lowers, &uppers, count)?;
+    let pair = with_mask(head, mask)?;
+    let mut firsts = [0u64; 1024];
+    let mut sets = [0u64; 1024];
+    let mut known = [0u64; 133];
+    narrow_blocks(
+        pair,
+        book,
+        &mut bases,
+        &mut lowers,
+        &mut uppers,
+        &mut firsts,
+        &mut sets,
+        &mut known,
+        out,
+    )
 }
 
-// Tidy: writes the normal form of a mask over the first bytes of `out`. Mask checks, then 10.
-pub fn tidy(mask: &[u8], out: &mut [u8]) -> TidyAnswer
+// Tidy: writes the normal form of a mask over the first bytes of `out`, and returns how many bytes that is. Mask checks, then 10.
+pub fn tidy(mask: &[u8], out: &mut [u8]) -> Result<u32, Refusal>
     ensures { Tidies mask.now out.old out.new result }
 {
-    let got = records::read_mask(mask);
-    let MaskOrRefusal::Accepted(head) = got else {
-        return TidyAnswer::Refused(records::mask_number(got));
-    };
+    let head = records::read_mask(mask)?;
     let mut bases = [0u64; 1024];
     let mut lowers = [0u16; 1024];
     let mut uppers = [0u16; 1024];
-    let size = write_tidied(mask, head.blocks, &mut bases, &mut lowers, &mut uppers, out);
-    if size == 0 {
-        return TidyAnswer::Refused(10);
-    }
-    TidyAnswer::Written(size)
+    write_tidied(mask, head.blocks, &mut bases, &mut lowers, &mut uppers, out)
 }
 
 // Place: the set and bounds of a block, from 1, and a place, in the narrowed list before dropping or joining; place 0 is the
 // optional part. Book checks, mask checks, 9, 11.
-pub fn place(book: &[u8], mask: &[u8], block: u32, place: u32) -> PlaceAnswer
+pub fn place(book: &[u8], mask: &[u8], block: u32, place: u32) -> Result<Block, Refusal>
     ensures { Places book.now mask.now block place result }
 {
-    let got = read_pair(book, mask);
-    let PairOrRefusal::Accepted(pair) = got else {
-        return PlaceAnswer::Refused(pair_number(got));
-    };
+    let pair = read_pair(book, mask)?;
     let block = block as usize;
     let place = place as usize;
     if missing(mask, pair.mask.blocks, block, place) {
-        return PlaceAnswer::Refused(11);
+        return Err(Refusal::Missing);
     }
-    PlaceAnswer::Placed(place_entry(pair, book, mask, block, place))
+    Ok(place_entry(pair, book, mask, block, place))
 }
 
 // Try: whether the mask spells a code, one letter number a byte, and whether the book accepts it. Book checks, mask checks,
 // 9, 12, 13.
-pub fn try_word(book: &[u8], mask: &[u8], word: &[u8]) -> TryAnswer
+pub fn try_word(book: &[u8], mask: &[u8], word: &[u8]) -> Result<Tried, Refusal>
     ensures { Tries book.now mask.now word.now result }
 {
-    let got = read_pair(book, mask);
-    let PairOrRefusal::Accepted(pair) = got else {
-        return TryAnswer::Refused(pair_number(got));
-    };
+    let pair = read_pair(book, mask)?;
     if 1024 < word.len() {
-        return TryAnswer::Refused(12);
+        return Err(Refusal::TooLong);
     }
     if membership::some_strange(word, pair.book.letters) {
-        return TryAnswer::Refused(13);
+        return Err(Refusal::Strange);
     }
-    TryAnswer::Tried {
+    Ok(Tried {
         mask: membership::spells(mask, pair.mask.blocks, word),
         book: membership::accepts(pair.book, &book[15..], word),
-    }
+    })
 }

@@ -1,20 +1,20 @@
 // Narrow on a book and a mask that pass the checks: the passes, the normal form, the verdict and the answer.
 ghost use Rattle.std.specs.Prelude.{true, not, ◌≡◌, ◌+◌, ◌≤◌};
+ghost use Rattle.model.specs.Refusal.{accepted};
 ghost use Rattle.model.specs.Set.{has, some_member};
 ghost use Rattle.model.specs.NormalForm.{normal};
 ghost use Rattle.model.specs.Verdict.{single, every, say};
 ghost use Rattle.model.specs.Size.{Room};
 ghost use Rattle.records.specs.Written.{mask_bytes, blocks_of, blocks_between, Enough};
-ghost use Rattle.operations.specs.declared.pair.PairOrRefusal.TheVariants.{Accepted};
 ghost use Rattle.operations.specs.Pair.{from_record, read_pair, Ready};
 ghost use Rattle.operations.specs.Passes.{Lent};
 ghost use Rattle.operations.specs.Narrow.{Answers, Narrows};
 
-use crate::NarrowAnswer;
+use crate::Narrowed;
 use crate::answer::write_answer;
 use crate::pair::Pair;
 use crate::passes::pass_blocks;
-use model::Verdict;
+use model::{Refusal, Verdict};
 
 // Whether each block from entry `first` up to `end` of the three slices has one letter and l = u.
 fn all_single(bases: &[u64], lowers: &[u16], uppers: &[u16], first: usize, end: usize) -> bool
@@ -49,7 +49,7 @@ fn conclude(
     uppers: &mut [u16],
     entries: usize,
     out: &mut [u8],
-) -> NarrowAnswer
+) -> Result<Narrowed, Refusal>
     requires enough { Enough bases.old lowers.old uppers.old entries }
     requires entries_bound { (entries ≤ 2048) × Room 64 (blocks_of bases.old lowers.old uppers.old entries) }
     ensures { let ys = normal (blocks_of bases.old lowers.old uppers.old entries) in
@@ -59,11 +59,8 @@ fn conclude(
     let first = normal_form::normalize(bases, lowers, uppers, entries);
     let singles = all_single(bases, lowers, uppers, first, entries);
     let verdict = judge(states, accepting, singles);
-    let bytes = write_answer(bases, lowers, uppers, first, entries, out);
-    if bytes == 0 {
-        return NarrowAnswer::Refused(10);
-    }
-    NarrowAnswer::Narrowed { verdict, bytes }
+    let bytes = write_answer(bases, lowers, uppers, first, entries, out)?;
+    Ok(Narrowed { verdict, bytes })
 }
 
 // Narrow on the blocks in the first entries of `bases`, `lowers` and `uppers`, in lent room.
@@ -77,19 +74,19 @@ pub(crate) fn narrow_blocks(
     sets: &mut [u64],
     known: &mut [u64],
     out: &mut [u8],
-) -> NarrowAnswer
+) -> Result<Narrowed, Refusal>
     requires ready { Ready book.now (blocks_of bases.old lowers.old uppers.old pair.mask.blocks) pair }
     requires lent { Lent pair.mask bases.old lowers.old uppers.old firsts.old sets.old known.old }
     ensures { let xs = blocks_of bases.old lowers.old uppers.old pair.mask.blocks in
-        Narrows (record { book = book.now; blocks = xs; failing = 0 }) out.old out.new result }
+        Narrows (record { book = book.now; blocks = xs; failing = accepted }) out.old out.new result }
 {
     let passed = pass_blocks(pair, book, bases, lowers, uppers, firsts, sets, known);
     let accepting = pair.book.accepting;
     if bitset::intersection(passed.states, accepting) == 0 {
-        return NarrowAnswer::Narrowed {
+        return Ok(Narrowed {
             verdict: Verdict::None,
             bytes: 0,
-        };
+        });
     }
     conclude(
         passed.states,
@@ -114,8 +111,8 @@ fn narrow_in(
     sets: &mut [u64],
     known: &mut [u64],
     out: &mut [u8],
-) -> NarrowAnswer
-    requires mask_value { read_pair book.now mask.now ≡ Accepted pair }
+) -> Result<Narrowed, Refusal>
+    requires mask_value { read_pair book.now mask.now ≡ Ok pair }
     requires lent { Lent pair.mask bases.old lowers.old uppers.old firsts.old sets.old known.old }
     ensures { Narrows (from_record book.now mask.now) out.old out.new result }
 {
@@ -129,8 +126,8 @@ pub(crate) fn narrow_sized<const MOST: usize, const ROOM: usize>(
     book: &[u8],
     mask: &[u8],
     out: &mut [u8],
-) -> NarrowAnswer
-    requires mask_value { read_pair book.now mask.now ≡ Accepted pair }
+) -> Result<Narrowed, Refusal>
+    requires mask_value { read_pair book.now mask.now ≡ Ok pair }
     requires room { (pair.mask.blocks ≤ MOST) × (pair.mask.uppers ≤ MOST) × (MOST + MOST ≤ ROOM) × (ROOM ≤ 2048) }
     ensures { Narrows (from_record book.now mask.now) out.old out.new result }
 {

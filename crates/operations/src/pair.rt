@@ -1,11 +1,11 @@
 // A book and a mask taken together: the checks that narrow, place and try begin with.
 ghost use Rattle.std.specs.Prelude.{◌≡◌};
-ghost use Rattle.records.specs.declared.BookOrRefusal.TheVariants.{Accepted};
-ghost use Rattle.records.specs.Book.{read_book};
-ghost use Rattle.records.specs.Mask.{numbers_of, mask_or};
-ghost use Rattle.operations.specs.Pair.{Given, read_given, read_pair, pair_number};
+ghost use Rattle.model.specs.Refusal.{accepted, refuse, unless};
+ghost use Rattle.model.specs.Set.{some_from};
+ghost use Rattle.operations.specs.Pair.{read_pair};
 
-use records::{Book, BookOrRefusal, Mask, MaskOrRefusal};
+use model::Refusal;
+use records::{Book, Mask};
 
 // The numbers of a book and of a mask whose letters are the book's.
 #[derive(Clone, Copy)]
@@ -14,43 +14,22 @@ pub(crate) struct Pair {
     pub mask: Mask,
 }
 
-// What is lent, as a book and a mask.
-#[derive(Clone, Copy)]
-pub(crate) enum PairOrRefusal {
-    Accepted(Pair),
-    Refused(u32),
-}
-
-// A book and a mask, or the number of the first check that fails: book checks, mask checks, 9.
-pub(crate) fn read_pair(book: &[u8], mask: &[u8]) -> PairOrRefusal
+// A book and a mask, or the first check that fails: book checks, mask checks, 9.
+pub(crate) fn read_pair(book: &[u8], mask: &[u8]) -> Result<Pair, Refusal>
     ensures { result ≡ read_pair book.now mask.now }
 {
-    let got = records::read_book(book);
-    let BookOrRefusal::Accepted(b) = got else {
-        return PairOrRefusal::Refused(records::book_number(got));
-    };
-    with_mask(b, records::read_mask(mask))
+    let book = records::read_book(book)?;
+    let mask = records::read_mask(mask)?;
+    with_mask(book, mask)
 }
 
-// A book that was read, with a mask or its refusal: then check 9.
-pub(crate) fn with_mask(book: Book, got: MaskOrRefusal) -> PairOrRefusal
-    ensures { (g : Given) → read_book g.book ≡ Accepted book → got ≡ mask_or (numbers_of g.blocks) g.failing → result ≡ read_given g }
+// A book and a mask that were read, by check 9.
+#[tactic(auto, unfolding(model::specs::Refusal::refuse))]
+pub(crate) fn with_mask(book: Book, mask: Mask) -> Result<Pair, Refusal>
+    ensures { result ≡ unless (refuse (some_from mask.used book.letters) Refusal.Foreign accepted) (record { book = book; mask = mask }) }
 {
-    let MaskOrRefusal::Accepted(mask) = got else {
-        return PairOrRefusal::Refused(records::mask_number(got));
-    };
     if records::some_foreign(mask, book.letters) {
-        return PairOrRefusal::Refused(9);
+        return Err(Refusal::Foreign);
     }
-    PairOrRefusal::Accepted(Pair { book, mask })
-}
-
-// The refusal number of a pair's answer, 0 for none.
-pub(crate) fn pair_number(got: PairOrRefusal) -> u32
-    ensures { result ≡ pair_number got }
-{
-    match got {
-        PairOrRefusal::Accepted(_) => 0,
-        PairOrRefusal::Refused(number) => number,
-    }
+    Ok(Pair { book, mask })
 }

@@ -3,7 +3,6 @@ ghost use Rattle.std.specs.Prelude.{◌≡◌};
 ghost use Rattle.records.specs.Book.{book_of};
 ghost use Rattle.records.specs.Mask.{mask_of};
 ghost use Rattle.records.specs.Written.{blocks_of};
-ghost use Rattle.operations.specs.declared.pair.PairOrRefusal.TheVariants.{Accepted};
 ghost use Rattle.operations.specs.Pair.{read_pair, Ready};
 ghost use Rattle.operations.specs.Passes.{Lent, Passes};
 
@@ -53,7 +52,7 @@ pub(crate) fn pass_mask(
     sets: &mut [u64],
     known: &mut [u64],
 ) -> Passed
-    requires mask_value { read_pair book.now mask.now ≡ Accepted pair }
+    requires mask_value { read_pair book.now mask.now ≡ Ok pair }
     requires lent { Lent pair.mask bases.old lowers.old uppers.old firsts.old sets.old known.old }
     ensures { let ys = blocks_of bases.new lowers.new uppers.new result.entries in
         Passes (book_of book.now) (mask_of mask.now) pair.mask result ys }

@@ -1,11 +1,11 @@
 // The entry of the narrowed list that place returns.
 ghost use Rattle.std.specs.Prelude.{true, false, ◌≡◌, ◌+◌, ◌*◌, ◌≤◌, ◌<◌, length};
+ghost use Rattle.model.specs.Refusal.{accepted};
 ghost use Rattle.model.specs.DashedString.{block_at};
 ghost use Rattle.model.specs.Place.{begins, entry_of, place as placed};
 ghost use Rattle.model.specs.Size.{lower_sum};
 ghost use Rattle.records.specs.Book.{book_of};
 ghost use Rattle.records.specs.Mask.{count, mask_of, mask_refusal};
-ghost use Rattle.operations.specs.declared.pair.PairOrRefusal.TheVariants.{Accepted};
 ghost use Rattle.operations.specs.Pair.{read_pair};
 ghost use Rattle.operations.specs.Passes.{Lent};
 ghost use Rattle.operations.specs.Placed.{missing as absent, entry_at};
@@ -24,7 +24,7 @@ pub(crate) fn missing(mask: &[u8], blocks: usize, block: usize, place: usize) ->
 
 // Where the entries of a block, from 0, begin in the narrowed list: each block before has l + 1 of them.
 fn first_entry(mask: &[u8], block: usize) -> usize
-    requires { (mask_refusal mask.now ≡ 0) × (block < count mask.now) }
+    requires { (mask_refusal mask.now ≡ accepted) × (block < count mask.now) }
     ensures { result ≡ begins (mask_of mask.now) block }
 {
     let mut entry = 0;
@@ -36,7 +36,7 @@ fn first_entry(mask: &[u8], block: usize) -> usize
 
 // The number of the entry of a block, from 0, and a place; place 0 is the optional part, behind the places.
 fn entry_of(mask: &[u8], block: usize, place: usize) -> usize
-    requires mask_value { (mask_refusal mask.now ≡ 0) × (block < count mask.now) }
+    requires mask_value { (mask_refusal mask.now ≡ accepted) × (block < count mask.now) }
     requires place_bound { place ≤ (block_at (mask_of mask.now) block).lower }
     ensures { result ≡ entry_of (mask_of mask.now) block place }
 {
@@ -49,7 +49,7 @@ fn entry_of(mask: &[u8], block: usize, place: usize) -> usize
 
 // The set and bounds of a block, from 1, and a place that are not missing.
 pub(crate) fn place_entry(pair: Pair, book: &[u8], mask: &[u8], block: usize, place: usize) -> Block
-    requires mask_value { read_pair book.now mask.now ≡ Accepted pair }
+    requires mask_value { read_pair book.now mask.now ≡ Ok pair }
     requires place_value { absent (mask_of mask.now) block place ≡ false }
     ensures { result ≡ placed (book_of book.now) (mask_of mask.now) block place }
 {
@@ -67,7 +67,7 @@ fn place_sized<const MOST: usize, const ROOM: usize>(
     mask: &[u8],
     entry: usize,
 ) -> Block
-    requires mask_value { read_pair book.now mask.now ≡ Accepted pair }
+    requires mask_value { read_pair book.now mask.now ≡ Ok pair }
     requires bound { entry < lower_sum (mask_of mask.now) + pair.mask.blocks }
     requires room { (pair.mask.blocks ≤ MOST) × (pair.mask.uppers ≤ MOST) × (MOST + MOST ≤ ROOM) × (ROOM ≤ 2048) }
     ensures { result ≡ entry_at (book_of book.now) (mask_of mask.now) entry }
@@ -105,7 +105,7 @@ fn place_in(
     sets: &mut [u64],
     known: &mut [u64],
 ) -> Block
-    requires mask_value { read_pair book.now mask.now ≡ Accepted pair }
+    requires mask_value { read_pair book.now mask.now ≡ Ok pair }
     requires bound { entry < lower_sum (mask_of mask.now) + pair.mask.blocks }
     requires lent { Lent pair.mask bases.old lowers.old uppers.old firsts.old sets.old known.old }
     ensures { result ≡ entry_at (book_of book.now) (mask_of mask.now) entry }

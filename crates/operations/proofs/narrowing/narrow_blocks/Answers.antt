@@ -2,7 +2,7 @@
 use native.Mathlib.Omega.{arith}
 use Rattle.records.proofs.WellFormed.{slices_wide}
 use Rattle.operations.proofs.Passing.{few_blocks}
-use Rattle.operations.proofs.Narrowed.{list_fits, narrow_none, narrow_some}
+use Rattle.operations.proofs.NarrowPromise.{list_fits, narrow_none, narrow_some}
 use Rattle.operations.proofs.narrowing.narrow_blocks.Goals as goal
 
 pub returns-then-intersection-eq0 : goal.returns-then-intersection-eq0

@@ -3,7 +3,7 @@ use native.Mathlib.Omega.{arith}
 use Rattle.records.proofs.Answers.{mask_holds}
 use Rattle.operations.proofs.Pairs.{pair_mask, pair_ready}
 use Rattle.operations.proofs.Placed.{pair_mask_none}
-use Rattle.operations.proofs.Narrowed.{narrow_record_lem}
+use Rattle.operations.proofs.NarrowPromise.{narrow_record_lem}
 use Rattle.operations.proofs.narrowing.narrow_in.Goals as goal
 
 pub read_blocks-requires : goal.read_blocks-requires

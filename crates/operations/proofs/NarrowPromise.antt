@@ -1,14 +1,20 @@
 -- What narrow promises, from what its steps give.
 -- Assumes nothing.
-use Prim.Native.Nat.{ℕ, zero, suc, ◌+◌, ◌*◌, ◌^◌, ◌≤◌, ◌<◌}
-use mathlib.Core.Path.{◌≡◌, refl, ap, ◌∙◌, sym}
+use Prim.Native.Nat.{ℕ, ◌+◌, ◌*◌, ◌^◌, ◌≤◌, ◌<◌}
+use Rattle.std.proofs.Common.{Option, Result, Ok, Err}
+use Rattle.std.proofs.Common as option
+use mathlib.Core.Path.{◌≡◌, refl, ◌∙◌, sym}
 use mathlib.Core.Logic.{⊎_elim}
 use mathlib.Core.Bool.{Bool, true, false, not}
 use mathlib.Core.List.{List}
 use native.Mathlib.Omega.{arith}
-use borrow.Author.Tests.{lt-ltb, le-ltb}
-use lib.ListN.{length}
+use borrow.Author.Tests.{le-ltb}
+use lib.ListN.{length, take}
 use Rattle.model.specs.declared.Block.{Block}
+use Rattle.model.specs.declared.Refusal.{Refusal}
+use Rattle.model.specs.declared.Refusal.TheVariants as refusal
+use Rattle.std.specs.Option.{option_map_or}
+use Rattle.model.specs.Refusal.{number, accepted, unless}
 use Rattle.model.specs.declared.Verdict.{Verdict}
 use Rattle.model.specs.declared.Verdict.TheVariants.{None, All, One, Some}
 use Rattle.model.specs.Set.{has, both, some_member}
@@ -27,40 +33,36 @@ use Rattle.records.specs.Bytes.{Bytes, over}
 use Rattle.records.specs.Book.{book_head, book_of}
 use Rattle.records.specs.Mask.{mask_of, mask_refusal, foreign}
 use Rattle.records.specs.Written.{mask_bytes}
-use Rattle.records.proofs.Checks.{on, off, each_map}
+use Rattle.records.proofs.Answers.{unless_ok}
+use Rattle.records.proofs.Checks.{off, each_map}
 use Rattle.records.proofs.Over.{take_over}
 use Rattle.records.proofs.RoundTrip.{length_mask, reads_back}
 use Rattle.records.proofs.WellFormed.{checked, Wide}
-use Rattle.operations.specs.declared.NarrowAnswer.{NarrowAnswer}
-use Rattle.operations.specs.declared.NarrowAnswer.TheVariants.{Narrowed, Refused}
+use Rattle.operations.specs.declared.Narrowed.{Narrowed}
 use Rattle.operations.specs.declared.pair.Pair.{Pair}
-use Rattle.operations.specs.declared.pair.PairOrRefusal.{PairOrRefusal}
-use Rattle.operations.specs.declared.pair.PairOrRefusal.TheVariants as pairAnswer
-use Rattle.operations.specs.Buffer.{Puts}
-use Rattle.operations.specs.Pair.{Given, from_record, given_refusal, pair_refusal, read_given, pair_number, Ready}
+use Rattle.operations.specs.Buffer.{room_refusal, Puts}
+use Rattle.operations.specs.Pair.{Given, from_record, given_refusal, pair_refusal, Ready}
 use Rattle.operations.specs.Passes.{Found}
-use Rattle.operations.specs.Narrow.{written, narrow_record, narrow_refusal, narrow_or, narrowed, narrow_buffer, narrow_numbers, Narrows, Answers}
-use Rattle.operations.proofs.Order.{refused_first}
-use Rattle.operations.proofs.Pairs.{given_refused, given_checks, pair_room}
-use Rattle.operations.proofs.Putting.{short_or_room, put_nothing, put_all}
+use Rattle.operations.specs.Narrow.{written, narrow_record, narrow_refusal, narrowed, narrow_buffer, narrow_numbers, Narrows, Answers}
+use Rattle.operations.proofs.Order.{same_refusal}
+use Rattle.operations.proofs.Pairs.{given_checks, pair_room}
 use Rattle.operations.proofs.Passing.{ready_fits, found_legal}
 
 -- ---- a verdict answered with its record, or 10
 
--- the normal form zs, made as ys, was to be put into a buffer
-module _ (ys zs : List Block) (made : ys ≡ zs) (old new : List ℕ) (r : ℕ) (put : Puts (mask_bytes ys) old new r) where
-  -- nothing was written: the buffer is shorter
-  pub conclude_short : (v : Verdict) → r ≡ 0 → Answers v (mask_bytes zs) old new (Refused 10)
-  conclude_short v e =
-      let (less, same) = put_nothing (mask_bytes ys) old new r put (omega (arith, length_mask ys)) e in
-      rw (← made) (record { short = λ _. (refl, same); fits = λ l. absurd (omega arith) })
+-- the normal form zs, made as ys, was put into a buffer
+module _ (ys zs : List Block) (made : ys ≡ zs) (old new : List ℕ) (got : Result ℕ Refusal) (put : Puts (mask_bytes ys) old new got) where
+  -- which is shorter
+  pub conclude_short : (r : Refusal) → got ≡ Err r → (v : Verdict) → Answers v (mask_bytes zs) old new (Err r)
+  conclude_short r is v =
+      rw (← made) (record { answer = same_refusal (room_refusal (mask_bytes ys) (length old)) _ _ r (sym is ∙ put.answer); buffer = put.buffer })
 
-  -- it was written
-  pub conclude_put : (illegal singles : Bool) (v : Verdict) → singles ≡ every single ys → v ≡ say true illegal singles → ¬ (r ≡ 0)
-      → Answers (say true illegal (every single zs)) (mask_bytes zs) old new (Narrowed v r)
-  conclude_put illegal singles v t e n =
-      let (room, (size, same)) = put_all (mask_bytes ys) old new r put n in
-      rw (← made, ← t, ← e) (record { short = λ l. absurd (omega arith); fits = λ _. (rw size, same) })
+  -- or has room
+  pub conclude_put : (n : ℕ) → got ≡ Ok n → (illegal singles : Bool) (v : Verdict) → singles ≡ every single ys → v ≡ say true illegal singles
+      → Answers (say true illegal (every single zs)) (mask_bytes zs) old new (Ok (record { verdict = v; bytes = n }))
+  conclude_put n is illegal singles v t e =
+      let (passes, size) = unless_ok (room_refusal (mask_bytes ys) (length old)) _ n (sym put.answer ∙ is) in
+      rw (← made, ← t, ← e) (record { answer = rw (passes, size); buffer = put.buffer })
 
 -- ---- what is written, read back
 
@@ -84,24 +86,13 @@ none_any d e zs =
       mask = λ n. absurd (n e);
     }
 
--- the same verdict and the same bytes
-same_answer : {v v' : Verdict} {n n' : ℕ} → Narrowed v n ≡ Narrowed v' n' → (v ≡ v') × (n ≡ n')
-same_answer e = (cc, cc)
-
 -- where the checks refuse, the buffer keeps every byte
-refusing : (g : Given) (old : List ℕ) (r : ℕ) → narrow_refusal g (length old) ≡ r → 0 < r → Narrows g old old (Refused r)
-unfolding narrowed narrow_buffer
-refusing g old zero e h = absurd (omega arith)
-refusing g old (suc r) e h =
-    record {
-      answer = rw e;
-      buffer = rw e;
-      meaning = λ v n a. absurd (omega (arith, ap (λ x. (narrow_numbers x).refusal) a));
-      again = λ v n a. absurd (omega (arith, ap (λ x. (narrow_numbers x).refusal) a));
-    }
+pub narrow_refused : (g : Given) (old : List ℕ) (r : Refusal) → given_refusal g ≡ option.Some r → Narrows g old old (Err r)
+unfolding narrow_refusal narrowed narrow_buffer
+narrow_refused g old r e = record { answer = rw e; buffer = rw e; meaning = λ n a. cc; again = λ n a. cc }
 
 -- a book and a mask that are not refused
-module _ (g : Given) (none : given_refusal g ≡ 0) (fits : Fits (book_head g.book).letters g.blocks) where
+module _ (g : Given) (none : given_refusal g ≡ accepted) (fits : Fits (book_head g.book).letters g.blocks) where
   abbrev b : Dfa
   b = book_of g.book
 
@@ -113,7 +104,7 @@ module _ (g : Given) (none : given_refusal g ≡ 0) (fits : Fits (book_head g.bo
 
   -- the narrowed mask is written and read back
   back : let ys = narrowed_mask b xs in
-      (mask_refusal (mask_bytes ys) ≡ 0) × (mask_of (mask_bytes ys) ≡ ys) × (foreign m (mask_of (mask_bytes ys)) ≡ false)
+      (mask_refusal (mask_bytes ys) ≡ accepted) × (mask_of (mask_bytes ys) ≡ ys) × (foreign m (mask_of (mask_bytes ys)) ≡ false)
   back = reads_back m _ (mask_fits b m xs fits.room)
 
   -- demand 3, of what is written
@@ -127,47 +118,31 @@ module _ (g : Given) (none : given_refusal g ≡ 0) (fits : Fits (book_head g.bo
 
   -- it is accepted again with the same book, and in normal form
   taken_again : ¬ (verdict b xs ≡ None)
-      → (pair_refusal g.book (narrow_record g) ≡ 0) × Reduced (mask_of (narrow_record g))
+      → (pair_refusal g.book (narrow_record g) ≡ accepted) × Reduced (mask_of (narrow_record g))
   unfolding narrow_record given_refusal narrowed_mask
   taken_again n =
       rw (written_some (verdict b xs) (mask_bytes (narrowed_mask b xs)) n)
-      (rw ((given_checks g none).0, back.0) (off _ 9 0 back.2), rw back.1 (normal_reduced (narrowed_list b xs)))
-
-  -- where nothing is refused, the verdict is returned and the record written
-  writing : (old : List ℕ) → narrow_refusal g (length old) ≡ 0
-      → Narrows g old (over (narrow_record g) old) (Narrowed (verdict b xs) (length (narrow_record g)))
-  unfolding narrowed narrow_buffer
-  writing old e =
-      record {
-        answer = rw e;
-        buffer = rw e;
-        meaning = λ v n a. let (p, q) = same_answer a in rw (← p, ← q, take_over (narrow_record g) old) means;
-        again = λ v n a s. let (p, q) = same_answer a in rw (← q, take_over (narrow_record g) old) (taken_again (rw p s));
-      }
+      (rw ((given_checks g none).0, back.0) (off _ refusal.Foreign accepted back.2), rw back.1 (normal_reduced (narrowed_list b xs)))
 
   -- the verdict is answered with the record, or 10
-  answering : (old new : List ℕ) (a : NarrowAnswer) → Answers (verdict b xs) (narrow_record g) old new a → Narrows g old new a
-  unfolding narrow_refusal
+  answering : (old new : List ℕ) (a : Result Narrowed Refusal) → Answers (verdict b xs) (narrow_record g) old new a → Narrows g old new a
+  unfolding narrow_refusal narrowed narrow_buffer
   answering old new a answers =
-      let answer = narrow_record g in
-      ⊎_elim
-      (λ l.
-      let (is, same) = answers.short l in
-      rw (is, same) (refusing g old 10 (rw none (on _ 10 0 (lt-ltb (length old) (length answer) l))) (omega arith)))
-      (λ l.
-      let (is, same) = answers.fits l in
-      rw (is, same) (writing old (rw none (off _ 10 0 (le-ltb (length old) (length answer) l)))))
-      (short_or_room answer old)
+      record {
+        answer = rw none answers.answer;
+        buffer = rw none answers.buffer;
+        meaning = λ n is. let (front, same) = written_there n is in rw (front, same) means;
+        again = λ n is some. let (front, same) = written_there n is in rw front (taken_again (rw same at some));
+      }
+    where
+      -- where nothing is refused, the record is written
+      written_there : (n : Narrowed) → a ≡ Ok n → (take n.bytes new ≡ narrow_record g) × (n.verdict ≡ verdict b xs)
+      written_there n is =
+          let (passes, same) = unless_ok (room_refusal (narrow_record g) (length old)) _ n (sym answers.answer ∙ is) in
+          let put : new ≡ over (narrow_record g) old = rw passes at answers.buffer in
+          rw (same, put) (take_over (narrow_record g) old, refl)
 
 -- ---- the steps
-
--- the book or the mask is refused
-pub narrow_refused : (g : Given) (old : List ℕ) (got : PairOrRefusal) → got ≡ read_given g → (n r : ℕ) → got ≡ pairAnswer.Refused n
-    → r ≡ pair_number got → Narrows g old old (Refused r)
-unfolding narrow_refusal
-narrow_refused g old got read n r is e =
-    let (same, l) = given_refused g n (sym read ∙ is) in
-    rw (e, is) (refusing g old n (rw (same, refused_first n _ l)) l)
 
 -- where some code is legal, the verdict is not none
 written_said : (illegal singles : Bool) (bytes : List ℕ) → written (say true illegal singles) bytes ≡ bytes
@@ -189,11 +164,11 @@ module _
     (r : ℕ) (shared : r ≡ both s p.book.accepting) where
   -- no check refuses them
   abbrev given : Given
-  given = record { book = bs; blocks = xs; failing = 0 }
+  given = record { book = bs; blocks = xs; failing = accepted }
 
-  none : given_refusal given ≡ 0
+  none : given_refusal given ≡ accepted
   unfolding given_refusal
-  none = rw ready.book (off _ 9 0 ready.letters)
+  none = rw ready.book (off _ refusal.Foreign accepted ready.letters)
 
   fits : Fits (book_head bs).letters xs
   fits = ready_fits bs xs p ready wide
@@ -208,14 +183,14 @@ module _
       rw (found.list (rw (legal.1 n) tt)) (room_64 m _ (list_room (book_of bs) m xs fits.room))
 
   -- where no code is legal, none is answered and nothing written
-  pub narrow_none : (old : List ℕ) → r ≡ 0 → Narrows given old old (Narrowed None 0)
+  pub narrow_none : (old : List ℕ) → r ≡ 0 → Narrows given old old (Ok (record { verdict = None; bytes = 0 }))
   unfolding over verdict narrow_record
   narrow_none old z =
-      answering given none fits old old (Narrowed None 0)
-      (rw (legal.0 z) (record { short = λ l. absurd (omega arith); fits = λ _. (refl, refl) }))
+      let passes = off _ refusal.Room accepted (le-ltb (length old) 0 (omega arith)) in
+      answering given none fits old old _ (rw (legal.0 z) (record { answer = rw passes; buffer = rw passes }))
 
   -- where some is, the verdict is answered with the normal form of the narrowed list
-  pub narrow_some : (old new : List ℕ) (a : NarrowAnswer) → ¬ (r ≡ 0)
+  pub narrow_some : (old new : List ℕ) (a : Result Narrowed Refusal) → ¬ (r ≡ 0)
       → Answers (say true (some_member s (λ q. not (has p.book.accepting q))) (every single (normal ys))) (mask_bytes (normal ys)) old new a
       → Narrows given old new a
   unfolding narrowed_mask some_illegal verdict narrow_record
@@ -224,20 +199,20 @@ module _
       answering given none fits old new a (rw (legal.1 n, written_said) (rw (ready.numbers, found.states, list) at h))
 
 -- what holds of a mask's blocks, copied, holds of the mask
-pub narrow_record_lem : (bs ms : List ℕ) (xs : List Block) → xs ≡ mask_of ms → mask_refusal ms ≡ 0 → (old new : List ℕ) (a : NarrowAnswer)
-    → Narrows (record { book = bs; blocks = xs; failing = 0 }) old new a → Narrows (from_record bs ms) old new a
+pub narrow_record_lem : (bs ms : List ℕ) (xs : List Block) → xs ≡ mask_of ms → mask_refusal ms ≡ accepted → (old new : List ℕ) (a : Result Narrowed Refusal)
+    → Narrows (record { book = bs; blocks = xs; failing = accepted }) old new a → Narrows (from_record bs ms) old new a
 narrow_record_lem bs ms xs e none old new a h = rw none (rw e at h)
 
 -- ---- beside
 
 -- the refusal number at the host is that of the checks
-pub narrow_refusal_number : (g : Given) (room : ℕ) → (narrow_numbers (narrowed g room)).refusal ≡ narrow_refusal g room
+pub narrow_refusal_number : (g : Given) (room : ℕ) → (narrow_numbers (narrowed g room)).refusal ≡ option_map_or number (narrow_refusal g room) 0
 unfolding narrowed
 narrow_refusal_number g room = go (narrow_refusal g room)
   where
-    go : (r : ℕ) → (narrow_numbers (narrow_or (verdict (book_of g.book) g.blocks) (length (narrow_record g)) r)).refusal ≡ r
-    go zero = refl
-    go (suc r) = refl
+    go : (o : Option Refusal) → (narrow_numbers (unless o (record { verdict = verdict (book_of g.book) g.blocks; bytes = length (narrow_record g) }))).refusal ≡ option_map_or number o 0
+    go option.None = refl
+    go (option.Some r) = refl
 
 -- nothing is written, or the record
 written_shorter : (v : Verdict) (bytes : List ℕ) → length (written v bytes) ≤ length bytes
@@ -247,8 +222,8 @@ written_shorter One bytes = omega arith
 written_shorter Some bytes = omega arith
 
 -- an answer buffer for 1,024 blocks always suffices
-pub narrow_suffices : (bs ms : List ℕ) (room : ℕ) → Bytes ms → pair_refusal bs ms ≡ 0 → 6 + 12 * 1024 ≤ room
-    → narrow_refusal (from_record bs ms) room ≡ 0
+pub narrow_suffices : (bs ms : List ℕ) (room : ℕ) → Bytes ms → pair_refusal bs ms ≡ accepted → 6 + 12 * 1024 ≤ room
+    → narrow_refusal (from_record bs ms) room ≡ accepted
 unfolding narrow_record narrow_refusal
 narrow_suffices bs ms room bytes none h =
     let b = book_of bs in
@@ -257,4 +232,4 @@ narrow_suffices bs ms room bytes none h =
     let few = (mask_fits b m xs (pair_room bs ms bytes none)).few in
     let shorter = written_shorter (verdict b xs) (mask_bytes (narrowed_mask b xs)) in
     let fits : length (narrow_record (from_record bs ms)) ≤ room = omega (arith, few, length_mask (narrowed_mask b xs), shorter) in
-    rw none (off _ 10 0 (le-ltb room (length (narrow_record (from_record bs ms))) fits))
+    rw none (off _ refusal.Room accepted (le-ltb room (length (narrow_record (from_record bs ms))) fits))
