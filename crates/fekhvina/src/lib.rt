@@ -3,62 +3,27 @@
 #![tactic(auto)]
 
 ghost use Rattle.std.specs.Prelude.{◌≡◌, length};
-ghost use Rattle.model.specs.Verdict.{number as verdict_number};
 ghost use Rattle.operations.specs.Pair.{from_record, from_list};
 ghost use Rattle.operations.specs.Narrow.{narrowed, narrow_numbers, Narrows};
 ghost use Rattle.operations.specs.Placed.{placed, place_numbers, Places};
 ghost use Rattle.operations.specs.Tidy.{tidied, tidy_numbers, Tidies};
-ghost use Rattle.operations.specs.Try as number;
 ghost use Rattle.operations.specs.Try.{tried, try_numbers, Tries};
 
-use model::{Block, Verdict};
-use operations::{
-    NarrowAnswer, PlaceAnswer, TidyAnswer, TryAnswer, narrow, narrow_list, tidy, try_word,
-};
-
-// The refusal number of narrow's answer, 0 for none.
-fn narrow_refusal(answer: NarrowAnswer) -> u32
-    ensures { result ≡ (narrow_numbers answer).refusal }
-{
-    match answer {
-        NarrowAnswer::Narrowed {
-            verdict: _,
-            bytes: _,
-        } => 0,
-        NarrowAnswer::Refused(number) => number,
-    }
-}
+use model::{Block, Refusal, refusal_number};
+use operations::{Narrowed, Tried, narrow, narrow_list, tidy, try_word};
 
 // The number of the verdict of narrow's answer, 0 where refused.
-fn narrow_verdict(answer: NarrowAnswer) -> u32
+fn narrow_verdict(answer: Result<Narrowed, Refusal>) -> u32
     ensures { result ≡ (narrow_numbers answer).verdict }
 {
-    match answer {
-        NarrowAnswer::Narrowed { verdict, bytes: _ } => verdict_number(verdict),
-        NarrowAnswer::Refused(_) => 0,
-    }
+    answer.map_or(0, |narrowed| narrowed.verdict.number())
 }
 
 // The bytes written of narrow's answer, 0 where refused.
-fn narrow_bytes(answer: NarrowAnswer) -> u32
+fn narrow_bytes(answer: Result<Narrowed, Refusal>) -> u32
     ensures { result ≡ (narrow_numbers answer).bytes }
 {
-    match answer {
-        NarrowAnswer::Narrowed { verdict: _, bytes } => bytes,
-        NarrowAnswer::Refused(_) => 0,
-    }
-}
-
-// None, all, one and some are 1 to 4.
-fn verdict_number(verdict: Verdict) -> u32
-    ensures { result ≡ verdict_number verdict }
-{
-    match verdict {
-        Verdict::None => 1,
-        Verdict::All => 2,
-        Verdict::One => 3,
-        Verdict::Some => 4,
-    }
+    answer.map_or(0, |narrowed| narrowed.bytes)
 }
 
 // Narrow's refusal number.
@@ -68,7 +33,7 @@ pub extern "C" fn fekhvina_narrow_refusal(book: &[u8], mask: &[u8], out: &mut [u
         (result ≡ (narrow_numbers answer).refusal)
         × Narrows (from_record book.now mask.now) out.old out.new answer }
 {
-    narrow_refusal(narrow(book, mask, out))
+    refusal_number(&narrow(book, mask, out))
 }
 
 // The number of narrow's verdict.
@@ -98,7 +63,7 @@ pub extern "C" fn fekhvina_narrow_list_refusal(book: &[u8], blocks: &[Block], ou
         (result ≡ (narrow_numbers answer).refusal)
         × Narrows (from_list book.now blocks.now) out.old out.new answer }
 {
-    narrow_refusal(narrow_list(book, blocks, out))
+    refusal_number(&narrow_list(book, blocks, out))
 }
 
 // The number of its verdict.
@@ -121,44 +86,25 @@ pub extern "C" fn fekhvina_narrow_list_bytes(book: &[u8], blocks: &[Block], out:
     narrow_bytes(narrow_list(book, blocks, out))
 }
 
-// The refusal number of place's answer, 0 for none.
-fn place_refusal(answer: PlaceAnswer) -> u32
-    ensures { result ≡ (place_numbers answer).refusal }
-{
-    match answer {
-        PlaceAnswer::Placed(_) => 0,
-        PlaceAnswer::Refused(number) => number,
-    }
-}
-
 // The set of place's answer, empty where refused.
-fn place_set(answer: PlaceAnswer) -> u64
+fn place_set(answer: Result<Block, Refusal>) -> u64
     ensures { result ≡ (place_numbers answer).set }
 {
-    match answer {
-        PlaceAnswer::Placed(block) => block.base,
-        PlaceAnswer::Refused(_) => 0,
-    }
+    answer.map_or(0, |block| block.base)
 }
 
 // The lower bound of place's answer, 0 where refused.
-fn place_lower(answer: PlaceAnswer) -> u32
+fn place_lower(answer: Result<Block, Refusal>) -> u32
     ensures { result ≡ (place_numbers answer).lower }
 {
-    match answer {
-        PlaceAnswer::Placed(block) => block.lower as u32,
-        PlaceAnswer::Refused(_) => 0,
-    }
+    answer.map_or(0, |block| u32::from(block.lower))
 }
 
 // The upper bound of place's answer, 0 where refused.
-fn place_upper(answer: PlaceAnswer) -> u32
+fn place_upper(answer: Result<Block, Refusal>) -> u32
     ensures { result ≡ (place_numbers answer).upper }
 {
-    match answer {
-        PlaceAnswer::Placed(block) => block.upper as u32,
-        PlaceAnswer::Refused(_) => 0,
-    }
+    answer.map_or(0, |block| u32::from(block.upper))
 }
 
 // Place's refusal number.
@@ -167,7 +113,7 @@ pub extern "C" fn fekhvina_place_refusal(book: &[u8], mask: &[u8], block: u32, p
     ensures { let answer = placed book.now mask.now block place in
         (result ≡ (place_numbers answer).refusal) × Places book.now mask.now block place answer }
 {
-    place_refusal(operations::place(book, mask, block, place))
+    refusal_number(&operations::place(book, mask, block, place))
 }
 
 // The set that place found.
@@ -197,24 +143,11 @@ pub extern "C" fn fekhvina_place_upper(book: &[u8], mask: &[u8], block: u32, pla
     place_upper(operations::place(book, mask, block, place))
 }
 
-// The refusal number of tidy's answer, 0 for none.
-fn tidy_refusal(answer: TidyAnswer) -> u32
-    ensures { result ≡ (tidy_numbers answer).refusal }
-{
-    match answer {
-        TidyAnswer::Written(_) => 0,
-        TidyAnswer::Refused(number) => number,
-    }
-}
-
 // The bytes written of tidy's answer, 0 where refused.
-fn tidy_bytes(answer: TidyAnswer) -> u32
+fn tidy_bytes(answer: Result<u32, Refusal>) -> u32
     ensures { result ≡ (tidy_numbers answer).bytes }
 {
-    match answer {
-        TidyAnswer::Written(bytes) => bytes,
-        TidyAnswer::Refused(_) => 0,
-    }
+    answer.unwrap_or(0)
 }
 
 // Tidy's refusal number.
@@ -223,7 +156,7 @@ pub extern "C" fn fekhvina_tidy_refusal(mask: &[u8], out: &mut [u8]) -> u32
     ensures { let answer = tidied mask.now (length out.old) in
         (result ≡ (tidy_numbers answer).refusal) × Tidies mask.now out.old out.new answer }
 {
-    tidy_refusal(tidy(mask, out))
+    refusal_number(&tidy(mask, out))
 }
 
 // The bytes that tidy wrote.
@@ -235,44 +168,18 @@ pub extern "C" fn fekhvina_tidy_bytes(mask: &[u8], out: &mut [u8]) -> u32
     tidy_bytes(tidy(mask, out))
 }
 
-// The refusal number of try's answer, 0 for none.
-fn try_refusal(answer: TryAnswer) -> u32
-    ensures { result ≡ (try_numbers answer).refusal }
-{
-    match answer {
-        TryAnswer::Tried { mask: _, book: _ } => 0,
-        TryAnswer::Refused(number) => number,
-    }
-}
-
 // Whether the mask spells the code, of try's answer: yes is 1; 0 where refused.
-fn try_mask(answer: TryAnswer) -> u32
+fn try_mask(answer: Result<Tried, Refusal>) -> u32
     ensures { result ≡ (try_numbers answer).mask }
 {
-    match answer {
-        TryAnswer::Tried { mask, book: _ } => yes(mask),
-        TryAnswer::Refused(_) => 0,
-    }
+    answer.map_or(0, |tried| u32::from(tried.mask))
 }
 
 // Whether the book accepts the code, of try's answer: yes is 1; 0 where refused.
-fn try_book(answer: TryAnswer) -> u32
+fn try_book(answer: Result<Tried, Refusal>) -> u32
     ensures { result ≡ (try_numbers answer).book }
 {
-    match answer {
-        TryAnswer::Tried { mask: _, book } => yes(book),
-        TryAnswer::Refused(_) => 0,
-    }
-}
-
-// 1 for yes, 0 for no.
-fn yes(answer: bool) -> u32
-    ensures { result ≡ number.yes answer }
-{
-    if answer {
-        return 1;
-    }
-    0
+    answer.map_or(0, |tried| u32::from(tried.book))
 }
 
 // Try's refusal number.
@@ -281,7 +188,7 @@ pub extern "C" fn fekhvina_try_refusal(book: &[u8], mask: &[u8], word: &[u8]) ->
     ensures { let answer = tried book.now mask.now word.now in
         (result ≡ (try_numbers answer).refusal) × Tries book.now mask.now word.now answer }
 {
-    try_refusal(try_word(book, mask, word))
+    refusal_number(&try_word(book, mask, word))
 }
 
 // Whether the mask spells the code.

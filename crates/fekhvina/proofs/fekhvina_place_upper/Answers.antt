@@ -1,9 +1,0 @@
--- `fekhvina::fekhvina_place_upper` meets its contract.
-use Rattle.operations.specs.Placed.{place_numbers, Places}
-use Rattle.fekhvina.proofs.Answering.{number_of}
-use Rattle.fekhvina.proofs.fekhvina_place_upper.Goals as goal
-
-pub returns : goal.returns
-returns c =
-    let promised : Places _ _ _ _ _ = c.place.ensures in
-    number_of (λ a. (place_numbers a).upper) (Places _ _ _ _) _ _ _ promised.answer promised c.place_upper.ensures

@@ -1,9 +1,0 @@
--- `fekhvina::fekhvina_tidy_refusal` meets its contract.
-use Rattle.operations.specs.Tidy.{tidy_numbers, Tidies}
-use Rattle.fekhvina.proofs.Answering.{number_of}
-use Rattle.fekhvina.proofs.fekhvina_tidy_refusal.Goals as goal
-
-pub returns : goal.returns
-returns c =
-    let promised : Tidies _ _ _ _ = c.tidy.ensures in
-    number_of (λ a. (tidy_numbers a).refusal) (Tidies _ _ _) _ _ _ promised.answer promised c.tidy_refusal.ensures
