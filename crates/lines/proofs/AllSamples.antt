@@ -8,7 +8,8 @@ use Rattle.model.specs.NormalForm.{dropped, join, joined, normal}
 use Rattle.model.specs.Verdict.{narrowed_mask, single, every, some_legal, some_illegal, verdict}
 use Rattle.model.specs.Size.{lower_sum}
 use Rattle.records.specs.Bytes.{number_at, bytes_of}
-use Rattle.records.specs.Check.{refuse, some, unframed}
+use Rattle.model.specs.Refusal.{refuse}
+use Rattle.records.specs.Check.{some, unframed}
 use Rattle.records.specs.Book.{book_head, moves_of, out_of_range, unnamed, book_checks}
 use Rattle.records.specs.Mask.{block_from, blocks_from, mask_of, blocks_refusal, mask_refusal, foreign}
 use Rattle.records.specs.Written.{block_bytes, blocks_bytes, head_bytes, mask_bytes}

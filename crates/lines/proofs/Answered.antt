@@ -1,12 +1,14 @@
 -- The line of a mask, by what narrow promises of its answer in a buffer that suffices.
 -- Assumes nothing.
-use Prim.Native.Nat.{ℕ, zero, suc, ◌≤◌, ◌<◌}
+use Prim.Native.Nat.{ℕ, ◌≤◌}
 use mathlib.Core.Path.{◌≡◌, refl, sym, ◌∙◌, ap}
 use mathlib.Core.Logic.{inl, inr}
 use mathlib.Core.List.{List}
 use native.Mathlib.Omega.{arith}
 use lib.ListN.{length, take}
+use Rattle.std.specs.Prelude.{Result, Ok, Err}
 use Rattle.model.specs.declared.Block.{Block}
+use Rattle.model.specs.declared.Refusal.{Refusal}
 use Rattle.model.specs.declared.Verdict.{Verdict}
 use Rattle.model.specs.declared.Verdict.TheVariants.{None, All, One, Some}
 use Rattle.model.specs.Size.{Fits}
@@ -18,19 +20,13 @@ use Rattle.records.specs.Mask.{count, mask_of, blocks_from}
 use Rattle.records.specs.Written.{mask_bytes}
 use Rattle.records.proofs.Offsets.{blocks_counted}
 use Rattle.records.proofs.RoundTrip.{length_mask, reads_back}
-use Rattle.operations.specs.declared.NarrowAnswer.{NarrowAnswer}
-use Rattle.operations.specs.declared.NarrowAnswer.TheVariants.{Narrowed, Refused}
+use Rattle.operations.specs.declared.Narrowed.{Narrowed}
 use Rattle.operations.specs.Pair.{from_record}
 use Rattle.operations.specs.Narrow.{written, Narrows}
 use Rattle.operations.proofs.Pairs.{pair_room}
 use Rattle.operations.proofs.Told.{told_verdict, told_refusal}
-use Rattle.lines.specs.Line.{refused_line, verdict_line, line_or, mask_line}
+use Rattle.lines.specs.Line.{refused_line, verdict_line, mask_line}
 use Rattle.lines.specs.Sums.{Recorded}
-
--- where the checks refuse, the line says so
-line_refused : (n k : ℕ) (line : List ℕ) → 0 < k → line_or n line k ≡ refused_line n k
-line_refused n zero line h = absurd (omega arith)
-line_refused n (suc k) line h = refl
 
 -- a mask as a record
 record_mask : (m : ℕ) (ys : List Block) → Fits m ys → Recorded (mask_bytes ys) × (mask_of (mask_bytes ys) ≡ ys)
@@ -50,24 +46,20 @@ record_of m Some ys fits = record_mask m ys fits
 
 -- ---- narrow's answer on a book and a mask
 
-module _ (bs ms old new : List ℕ) (bytes : Bytes ms) (room : 12294 ≤ length old) (a : NarrowAnswer) (narrows : Narrows (from_record bs ms) old new a) where
-  abbrev ys : List Block
-  ys = narrowed_mask (book_of bs) (mask_of ms)
-
+module _ (bs ms old new : List ℕ) (bytes : Bytes ms) (room : 12294 ≤ length old) (a : Result Narrowed Refusal) (narrows : Narrows (from_record bs ms) old new a) where
   -- a refusal
-  pub refused_line_is : (n k : ℕ) → a ≡ Refused k → mask_line bs n ms ≡ refused_line n k
+  pub refused_line_is : (n : ℕ) (r : Refusal) → a ≡ Err r → mask_line bs n ms ≡ refused_line n r
   unfolding mask_line
-  refused_line_is n k e =
-      let (some, is) = told_refusal bs ms old new a narrows bytes room k e in
-      rw is (line_refused n k _ some)
+  refused_line_is n r e = rw (told_refusal bs ms old new a narrows bytes room r e) refl
 
   -- a verdict: the bytes written are the record
-  pub answered_line_is : (n size : ℕ) (v : Verdict) → a ≡ Narrowed v size
-      → (size ≤ length new) × Recorded (take size new) × (mask_line bs n ms ≡ verdict_line n v (mask_of (take size new)))
+  pub answered_line_is : (n : ℕ) (got : Narrowed) → a ≡ Ok got
+      → (got.bytes ≤ length new) × Recorded (take got.bytes new)
+      × (mask_line bs n ms ≡ verdict_line n got.verdict (mask_of (take got.bytes new)))
   unfolding mask_line
-  answered_line_is n size v e =
-      let (none, said, within, same) = told_verdict bs ms old new a narrows v size e in
-      let letters = (book_head bs).letters in
-      let fits = mask_fits (book_of bs) letters (mask_of ms) (pair_room bs ms bytes none) in
-      let (recorded, blocks) = record_of letters v ys fits in
-      (within, rw same recorded, rw (none, same, ← said) (ap (verdict_line n v) (sym blocks)))
+  answered_line_is n got e =
+      let (none, said, within, same) = told_verdict bs ms old new a narrows got e in
+      let ys : List Block = narrowed_mask (book_of bs) (mask_of ms) in
+      let fits = mask_fits (book_of bs) (book_head bs).letters (mask_of ms) (pair_room bs ms bytes none) in
+      let (recorded, blocks) = record_of (book_head bs).letters got.verdict ys fits in
+      (within, rw same recorded, rw (none, same, ← said) (ap (verdict_line n got.verdict) (sym blocks)))

@@ -25,8 +25,6 @@ masks_print (more ended n held read later new rest r a e m) =
 
 -- a whole run
 pub session_prints : {held later text : List ℕ} → Session held later text → text ≡ output (held ++ later)
-session_prints (refused ended held later book new k o l) = sym (o.1 later l)
-session_prints (opened ended held later book new text k n o m) =
-    masks_print m ∙ sym (o.2 later)
-session_prints (unopened ended held read later book new text o s) =
-    session_prints s ∙ ap output (append_assoc held read later)
+session_prints (refused ended held later r o l) = sym (o later l)
+session_prints (opened ended held later text k o m) = masks_print m ∙ sym (o.2 later)
+session_prints (unopened ended held read later text o s) = session_prints s ∙ ap output (append_assoc held read later)

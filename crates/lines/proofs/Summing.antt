@@ -15,7 +15,8 @@ use Rattle.records.specs.Bytes.{number_at}
 use Rattle.records.specs.Mask.{count, mask_of, blocks_from}
 use Rattle.records.proofs.Offsets.{blocks_counted}
 use Rattle.lines.specs.declared.answer.Sums.{Sums}
-use Rattle.lines.specs.Line.{word, line, verdict_line}
+use Rattle.model.specs.Verdict.{word}
+use Rattle.lines.specs.Line.{line, verdict_line}
 use Rattle.lines.specs.Sums.{Blocks, Recorded, Sum}
 
 -- the loop before block i: a and b with the sums of the blocks from i on make the whole sums
@@ -73,7 +74,7 @@ unfolding lower_sum
 nothing_line rs n v e = rw (nothing_mask rs e)
 
 -- what is not empty is a record, and its length says how many blocks it has
-pub recorded_some : (rs : List ℕ) → Recorded rs → ¬ (length rs ≡ 0) → Blocks rs ((length rs - 6) / 12)
+pub recorded_some : (rs : List ℕ) → Recorded rs → (length rs ≡ 0 → ⊥) → Blocks rs ((length rs - 6) / 12)
 recorded_some rs r n =
     let blocks : Blocks rs (count rs) = ⊎_elim (λ e. absurd (n e)) (λ b. b) r in
     let same : count rs ≡ (length rs - 6) / 12 = omega (arith, blocks.whole) in

@@ -1,22 +1,17 @@
 -- The line of a mask, and of a refused book (01, "The line program").
-use Rattle.std.specs.Prelude.{ℕ, zero, suc, List, ◌++◌, length}
+use Rattle.std.specs.Prelude.{ℕ, Option, None, Some, List, ◌++◌, length}
 use Rattle.model.specs.declared.Block.{Block}
 use Rattle.model.specs.declared.Verdict.{Verdict}
-use Rattle.model.specs.declared.Verdict.TheVariants.{None, All, One, Some}
-use Rattle.model.specs.Verdict.{verdict, narrowed_mask}
+use Rattle.model.specs.declared.Refusal.{Refusal}
+use Rattle.model.specs.Refusal as refusal
+use Rattle.model.specs.Text.{ascii}
+use Rattle.model.specs.Verdict.{word, verdict, narrowed_mask}
 use Rattle.model.specs.Size.{lower_sum, uppers}
 use Rattle.records.specs.Book.{book_of}
 use Rattle.records.specs.Mask.{mask_of}
 use Rattle.operations.specs.Pair.{pair_refusal}
 use Rattle.operations.specs.Narrow.{written}
-use Rattle.lines.specs.Text.{ascii, decimal}
-
--- the word of a verdict
-abbrev pub word : Verdict → List ℕ
-word None = ascii "none"
-word All = ascii "all"
-word One = ascii "one"
-word Some = ascii "some"
+use Rattle.lines.specs.Text.{decimal}
 
 -- a blank and a number
 abbrev pub spaced : ℕ → List ℕ
@@ -30,18 +25,18 @@ numbers a b c = spaced a ++ spaced b ++ spaced c ++ ascii "\n"
 abbrev pub line : ℕ → List ℕ → ℕ → ℕ → ℕ → List ℕ
 line n w a b c = decimal n ++ (ascii " " ++ w) ++ numbers a b c
 
--- a refused mask: its number, `refused`, the refusal, `0 0`
-abbrev pub refused_line : ℕ → ℕ → List ℕ
-refused_line n r = line n (ascii "refused") r 0 0
+-- a refused mask: its number, `refused`, the number of the refusal, `0 0`
+abbrev pub refused_line : ℕ → Refusal → List ℕ
+refused_line n r = line n (ascii "refused") (refusal.number r) 0 0
 
 -- the verdict, the blocks written, the sum of their lower and the sum of their upper bounds
 abbrev pub verdict_line : ℕ → Verdict → List Block → List ℕ
 verdict_line n v xs = line n (word v) (length xs) (lower_sum xs) (uppers xs)
 
--- the line by the refusal, 0 for none
-abbrev pub line_or : ℕ → List ℕ → ℕ → List ℕ
-line_or n answered zero = answered
-line_or n answered (suc r) = refused_line n (suc r)
+-- the line by the refusal, if any
+abbrev pub line_or : ℕ → List ℕ → Option Refusal → List ℕ
+line_or n answered None = answered
+line_or n answered (Some r) = refused_line n r
 
 -- the line of mask n: its refusal, or its verdict and the blocks written
 unfoldable pub mask_line : List ℕ → ℕ → List ℕ → List ℕ
@@ -50,5 +45,5 @@ mask_line bs n ms =
     line_or n (verdict_line n v (written v (narrowed_mask b xs))) (pair_refusal bs ms)
 
 -- a refused book: `book refused` and the number
-abbrev pub book_line : ℕ → List ℕ
-book_line r = ascii "book refused" ++ spaced r ++ ascii "\n"
+abbrev pub book_line : Refusal → List ℕ
+book_line r = ascii "book refused" ++ spaced (refusal.number r) ++ ascii "\n"

@@ -1,15 +1,13 @@
 -- What a part of the input settles of what the line program prints.
-use Rattle.std.specs.Prelude.{ℕ, ◌+◌, ◌≤◌, ◌<◌, ◌≡◌, Bool, false, List, [], ◌++◌, T, length, take, drop}
-use Rattle.records.specs.Book.{book_refusal}
+use Rattle.std.specs.Prelude.{ℕ, ◌+◌, ◌≤◌, ◌<◌, ◌≡◌, Bool, false, List, [], ◌++◌, T, length, take, drop, Option, None, Some, Result, Ok, Err}
+use Rattle.model.specs.declared.Refusal.{Refusal}
+use Rattle.stream.specs.declared.Next.{Next}
 use Rattle.stream.specs.Stream.{next, Unsettled}
 use Rattle.lines.specs.declared.Pause.{Pause}
 use Rattle.lines.specs.declared.Pause.TheVariants.{Full, More, Done}
 use Rattle.lines.specs.declared.Progress.{Progress}
-use Rattle.lines.specs.declared.Opened.{Opened}
-use Rattle.lines.specs.declared.Opened.TheVariants.{Book, Refused, Unopened}
 use Rattle.lines.specs.declared.masks.Step.{Step}
-use Rattle.lines.specs.declared.masks.Step.TheVariants.{Line, Last, Wanting}
-use Rattle.lines.specs.Text.{Appends}
+use Rattle.lines.specs.declared.masks.Step.TheVariants.{Passed, Last, Wanting}
 use Rattle.lines.specs.Line.{book_line}
 use Rattle.lines.specs.Output.{lines_from, output}
 
@@ -27,6 +25,11 @@ Later ended rest = T ended → rest ≡ []
 abbrev pub Wants : Bool → List ℕ → Type 0
 Wants ended rest = (ended ≡ false) × Unsettled (next rest) × (length rest < 65535)
 
+-- what stands next, which nothing that comes later changes, or more is wanted
+abbrev pub Settles : List ℕ → Bool → Option Next → Type 0
+Settles input ended (Some x) = (x ≡ next input) × (Unsettled x → T ended)
+Settles input ended None = Wants ended input
+
 -- why the lines pause: the buffer has no room for another line, or more is wanted, or nothing more is to be printed
 abbrev pub Because : Pause → ℕ → ℕ → Bool → List ℕ → Type 0
 Because Full size room ended rest = room < size + 92
@@ -42,26 +45,17 @@ pub record Advances (bs input : List ℕ) (ended : Bool) (n : ℕ) (new : List �
   pub size : r.size ≤ length new
   pub why : Because r.pause r.size (length new) ended (drop r.taken input)
 
--- what one mask adds to the text behind the first `at` bytes of a buffer
-abbrev pub Steps : List ℕ → List ℕ → Bool → ℕ → List ℕ → ℕ → List ℕ → Step → Type 0
-Steps bs rest ended n old at new (Line k size) =
-    (text : List ℕ) × Appends text old at new size × (k ≤ length rest)
-    × ((later : List ℕ) → lines_from bs n (rest ++ later) ≡ text ++ lines_from bs (n + 1) (drop k rest ++ later))
-Steps bs rest ended n old at new (Last size) =
-    (text : List ℕ) × Appends text old at new size × ((later : List ℕ) → Later ended later → lines_from bs n (rest ++ later) ≡ text)
-Steps bs rest ended n old at new Wanting = (new ≡ old) × Wants ended rest
+-- what one mask adds to the text, by its line
+abbrev pub Steps : List ℕ → List ℕ → Bool → ℕ → Step → Type 0
+Steps bs rest ended n (Passed k text) =
+    (k ≤ length rest) × ((later : List ℕ) → lines_from bs n (rest ++ later) ≡ text ++ lines_from bs (n + 1) (drop k rest ++ later))
+Steps bs rest ended n (Last text) = (later : List ℕ) → Later ended later → lines_from bs n (rest ++ later) ≡ text
+Steps bs rest ended n Wanting = Wants ended rest
 
--- a whole record as a book, copied over the first bytes of a buffer, or the line of a refused one
-abbrev pub Taken : List ℕ → List ℕ → List ℕ → Opened → Type 0
-Taken bs book text (Book k n) = (k ≡ length bs) × (n ≡ 1) × (book_refusal bs ≡ 0) × (k ≤ length book) × (take k book ≡ bs)
-Taken bs book text (Refused size) = (0 < book_refusal bs) × (size ≤ length text) × (take size text ≡ book_line (book_refusal bs))
-Taken bs book text Unopened = ⊥
-
--- what an input begins with, and its book, copied over the first bytes of a buffer
-abbrev pub Opens : List ℕ → Bool → List ℕ → List ℕ → Opened → Type 0
-Opens input ended book text (Book k n) =
-    (k ≤ length input) × (k ≤ length book)
-    × ((later : List ℕ) → output (input ++ later) ≡ lines_from (take k book) n (drop k input ++ later))
-Opens input ended book text (Refused size) =
-    (size ≤ length text) × ((later : List ℕ) → Later ended later → output (input ++ later) ≡ take size text)
-Opens input ended book text Unopened = Wants ended input
+-- what an input begins with: an accepted book of so many bytes, or more is wanted; or a refused book, whose line is all
+abbrev pub Opens : List ℕ → Bool → Result (Option ℕ) Refusal → Type 0
+Opens input ended (Ok (Some k)) =
+    (k ≤ length input) × (k ≤ 4047)
+    × ((later : List ℕ) → output (input ++ later) ≡ lines_from (take k input) 1 (drop k input ++ later))
+Opens input ended (Ok None) = Wants ended input
+Opens input ended (Err r) = (later : List ℕ) → Later ended later → output (input ++ later) ≡ book_line r

@@ -1,10 +1,10 @@
 -- What the line program prints for a few inputs: 01's sample, and each way to end.
 use Rattle.std.specs.Prelude.{ℕ, ◌≡◌, List, [], ◌∷◌, ◌++◌, take}
 use Prim.Native.String.{String}
+use Rattle.model.specs.Text.{ascii}
 use Rattle.model.specs.DashedString.{block}
 use Rattle.records.specs.Written.{mask_bytes}
 use Rattle.operations.specs.Samples.{A, B, C, up_to_two}
-use Rattle.lines.specs.Text.{ascii}
 use Rattle.lines.specs.Output.{lines_from, output}
 
 -- an input, and what is printed for it; a book, masks and the first one's number, and their lines

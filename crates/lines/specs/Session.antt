@@ -1,8 +1,9 @@
 -- A whole run of the line program over an input that comes in parts: what its loop does, turn by turn.
-use Rattle.std.specs.Prelude.{ℕ, ◌≡◌, Bool, List, ◌++◌, take, drop}
+use Rattle.std.specs.Prelude.{ℕ, ◌≡◌, Bool, List, ◌++◌, take, drop, None, Some, Ok, Err}
+use Rattle.model.specs.declared.Refusal.{Refusal}
 use Rattle.lines.specs.declared.Pause.TheVariants.{Full, More, Done}
 use Rattle.lines.specs.declared.Progress.{Progress}
-use Rattle.lines.specs.declared.Opened.TheVariants.{Book, Refused, Unopened}
+use Rattle.lines.specs.Line.{book_line}
 use Rattle.lines.specs.Parts.{Later, Advances, Opens}
 
 -- from mask n on, with these bytes held and these to come later: each turn prints its text and goes on as its pause says
@@ -19,9 +20,9 @@ pub data Masks (bs : List ℕ) : ℕ → List ℕ → List ℕ → List ℕ → 
 
 -- a whole run, from the start on: bytes are read until it is known what the input begins with
 pub data Session : List ℕ → List ℕ → List ℕ → Type 0 where
-  refused : (ended : Bool) (held later book new : List ℕ) (k : ℕ)
-      → Opens held ended book new (Refused k) → Later ended later → Session held later (take k new)
-  opened : (ended : Bool) (held later book new text : List ℕ) (k n : ℕ)
-      → Opens held ended book new (Book k n) → Masks (take k book) n (drop k held) later text → Session held later text
-  unopened : (ended : Bool) (held read later book new text : List ℕ)
-      → Opens held ended book new Unopened → Session (held ++ read) later text → Session held (read ++ later) text
+  refused : (ended : Bool) (held later : List ℕ) (r : Refusal)
+      → Opens held ended (Err r) → Later ended later → Session held later (book_line r)
+  opened : (ended : Bool) (held later text : List ℕ) (k : ℕ)
+      → Opens held ended (Ok (Some k)) → Masks (take k held) 1 (drop k held) later text → Session held later text
+  unopened : (ended : Bool) (held read later text : List ℕ)
+      → Opens held ended (Ok None) → Session (held ++ read) later text → Session held (read ++ later) text

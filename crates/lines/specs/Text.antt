@@ -1,13 +1,5 @@
--- Text as bytes, and numbers in decimal.
+-- Numbers in decimal, and text put into a buffer.
 use Rattle.std.specs.Prelude.{ℕ, zero, suc, ◌+◌, ◌/◌, ◌%◌, ◌≡◌, cond, List, [], ◌∷◌, ◌++◌, ltb, length, take}
-use Prim.Native.Char.{code}
-use Prim.Native.String.{String}
-use Prim.Native.String as string
-
--- the bytes of a text of ASCII characters
-abbrev pub ascii : String → List ℕ
-ascii string.[] = []
-ascii (string.◌∷◌ c s) = code c ∷ ascii s
 
 -- the digits of a number of at most k digits, with no 0 before others
 unfoldable pub digits : ℕ → ℕ → List ℕ

@@ -3,13 +3,14 @@
 #![tactic(auto)]
 
 mod answer;
-mod line;
 mod masks;
+mod next;
 mod opening;
 mod text;
 
 pub use masks::run;
 pub use opening::open;
+pub use text::{Line, book_line};
 
 // Why the lines pause: the buffer is full, more input is wanted, or nothing more is to be printed.
 #[derive(Clone, Copy)]
@@ -26,13 +27,4 @@ pub struct Progress {
     pub size: usize,
     pub number: u64,
     pub pause: Pause,
-}
-
-// What an input begins with: a book of so many bytes, with the number of the first mask; no book, with so many bytes of
-// text; or more input is wanted.
-#[derive(Clone, Copy)]
-pub enum Opened {
-    Book { size: usize, first: u64 },
-    Refused(usize),
-    Unopened,
 }

@@ -1,66 +1,56 @@
 // The lines of the masks that a part of the input holds.
-ghost use Rattle.std.specs.Prelude.{◌≡◌, ◌+◌, ◌≤◌, length};
+ghost use Rattle.std.specs.Prelude.{◌+◌, ◌≤◌, length};
+ghost use Rattle.lines.specs.Text.{Appends};
 ghost use Rattle.lines.specs.Parts.{Advances, Steps};
 
 use crate::answer::mask_line;
-use crate::line::refused_line;
+use crate::next::settled;
+use crate::text::{LONGEST, Line, refused_line};
 use crate::{Pause, Progress};
+use model::Refusal;
 use stream::Next;
 
-// What one mask adds: its line, of so many bytes of input and of text then; the last line, where nothing follows; or more
-// input is wanted.
-#[derive(Clone, Copy)]
+// What one mask adds: its line, by so many bytes of input; the last line, where nothing follows; or more input is wanted.
+#[derive(Drop)]
 pub(crate) enum Step {
-    Line { taken: usize, size: usize },
-    Last(usize),
+    Passed { taken: usize, line: Line },
+    Last(Line),
     Wanting,
 }
 
-// Puts the line of the mask that stands next in `rest`. `answer` is room for narrow's answer.
-pub(crate) fn add_mask(
+// The mask that stands next in `rest`. `answer` is room for narrow's answer.
+pub(crate) fn next_line(
     book: &[u8],
     rest: &[u8],
     ended: bool,
     number: u64,
     answer: &mut [u8],
-    out: &mut [u8],
-    at: usize,
 ) -> Step
-    requires { (number ≤ 4294967295) × (12294 ≤ length answer.old) × (at + 92 ≤ length out.old) }
-    ensures { Steps book.now rest.now ended number out.old at out.new result }
+    requires { (number ≤ 4294967295) × (12294 ≤ length answer.old) }
+    ensures { Steps book.now rest.now ended number result }
 {
-    let got = stream::next_record(rest);
-    match got {
-        Next::Whole(taken) => {
-            let size = mask_line(book, &rest[..taken], number, answer, out, at);
-            Step::Line { taken, size }
-        }
-        Next::Short => Step::Last(refused_line(number, 1, out, at)),
-        Next::Cut => {
-            if !ended {
-                return Step::Wanting;
-            }
-            Step::Last(refused_line(number, 1, out, at))
-        }
-        Next::End => {
-            if !ended {
-                return Step::Wanting;
-            }
-            Step::Last(at)
-        }
+    let Some(next) = settled(rest, ended) else {
+        return Step::Wanting;
+    };
+    match next {
+        Next::Whole(taken) => Step::Passed {
+            taken,
+            line: mask_line(book, &rest[..taken], number, answer),
+        },
+        Next::Short | Next::Cut => Step::Last(refused_line(number, Refusal::Unframed)),
+        Next::End => Step::Last(Line::new()),
     }
 }
 
-// How far the input was worked, and why no further.
-fn paused(taken: usize, size: usize, number: u64, pause: Pause) -> Progress
-    ensures { result ≡ record { taken = taken; size = size; number = number; pause = pause } }
+// Puts a line behind the first `at` bytes of `out`, and returns how many are filled then.
+fn put(line: &Line, out: &mut [u8], at: usize) -> usize
+    requires { at + 92 ≤ length out.old }
+    ensures { Appends line.now out.old at out.new result }
 {
-    Progress {
-        taken,
-        size,
-        number,
-        pause,
-    }
+    let text = line.as_slice();
+    let end = at + text.len();
+    out[at..end].copy_from_slice(text);
+    end
 }
 
 // Puts the lines of the masks of `input`, from number `first` on, at the start of `out`, as far as they go: up to a buffer
@@ -77,30 +67,34 @@ pub fn run(
     requires { 12294 ≤ length answer.old }
     ensures { Advances book.now input.now ended first out.new result }
 {
-    let mut taken = 0;
-    let mut size = 0;
-    let mut number = first;
-    while 92 <= out.len() - size {
-        if 4294967295 < number {
-            return paused(taken, size, number, Pause::Done);
+    let mut progress = Progress {
+        taken: 0,
+        size: 0,
+        number: first,
+        pause: Pause::Full,
+    };
+    while LONGEST <= out.len() - progress.size {
+        if 4294967295 < progress.number {
+            progress.pause = Pause::Done;
+            return progress;
         }
-        let got = add_mask(book, &input[taken..], ended, number, answer, out, size);
-        match got {
-            Step::Line {
-                taken: more,
-                size: filled,
-            } => {
-                taken += more;
-                size = filled;
-                number += 1;
+        let rest = &input[progress.taken..];
+        match next_line(book, rest, ended, progress.number, answer) {
+            Step::Passed { taken, line } => {
+                progress.taken += taken;
+                progress.size = put(&line, out, progress.size);
+                progress.number += 1;
             }
-            Step::Last(filled) => {
-                return paused(taken, filled, number, Pause::Done);
+            Step::Last(line) => {
+                progress.size = put(&line, out, progress.size);
+                progress.pause = Pause::Done;
+                return progress;
             }
             Step::Wanting => {
-                return paused(taken, size, number, Pause::More);
+                progress.pause = Pause::More;
+                return progress;
             }
         }
     }
-    paused(taken, size, number, Pause::Full)
+    progress
 }

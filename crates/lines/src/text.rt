@@ -1,23 +1,136 @@
-// Text put behind the first bytes of a buffer.
-ghost use Rattle.std.specs.Prelude.{◌+◌, ◌≤◌, length};
-ghost use Rattle.lines.specs.Text.{decimal, Appends};
+// The text of a line, in a buffer of its own. No line is longer than 92 bytes.
+ghost use Rattle.std.specs.Prelude.{◌≡◌, ◌++◌, ◌+◌, ◌≤◌, [], length};
+ghost use Rattle.lines.specs.Text.{decimal};
+ghost use Rattle.model.specs.Verdict.{word};
+ghost use Rattle.lines.specs.Line.{spaced, numbers, line, refused_line, book_line};
 
-// Puts bytes behind the first `at` of `out`, and returns how many are filled then.
-pub(crate) fn put(text: &[u8], out: &mut [u8], at: usize) -> usize
-    requires { at + length text.now ≤ length out.old }
-    ensures { Appends text.now out.old at out.new result }
-{
-    let end = at + text.len();
-    out[at..end].copy_from_slice(text);
-    end
+use model::{Refusal, Verdict};
+use std::marker::Model;
+
+pub(crate) const LONGEST: usize = 92;
+
+// A line as far as it is made.
+#[derive(Drop)]
+pub struct Line {
+    bytes: [u8; LONGEST],
+    size: usize,
 }
 
-// Puts a number in decimal.
-pub(crate) fn put_decimal(n: u64, out: &mut [u8], at: usize) -> usize
-    requires { at + 20 ≤ length out.old }
-    ensures { Appends (decimal n) out.old at out.new result }
+impl Model for Line {
+    ghost use Rattle.std.specs.Prelude.{ℕ, List, ◌≤◌, take};
+
+    ghost Value = { List ℕ };
+
+    ghost view = { λ l. take l.size l.bytes };
+
+    ghost invariant = { λ l. l.size ≤ 92 };
+}
+
+impl Line {
+    // No text.
+    pub(crate) fn new() -> Line
+        ensures { result ≡ [] }
+    {
+        Line {
+            bytes: [0; LONGEST],
+            size: 0,
+        }
+    }
+
+    // Its bytes.
+    pub fn as_slice(&self) -> &[u8]
+        ensures text { result.now ≡ self.now }
+        ensures fits { length result.now ≤ 92 }
+    {
+        &self.bytes[..self.size]
+    }
+
+    // Puts bytes behind it.
+    fn put(&mut self, text: &[u8])
+        requires { length self.old + length text.now ≤ 92 }
+        ensures { self.new ≡ self.old ++ text.now }
+    {
+        let end = self.size + text.len();
+        self.bytes[self.size..end].copy_from_slice(text);
+        self.size = end;
+    }
+
+    // Puts a number in decimal.
+    #[tactic(auto, using(crate::proofs::Appending::decimal_put))]
+    fn put_decimal(&mut self, n: u64)
+        requires { length self.old + 20 ≤ 92 }
+        ensures { self.new ≡ self.old ++ decimal n }
+    {
+        let mut digits = [0u8; 20];
+        let count = io::decimal(n, &mut digits);
+        self.put(&digits[..count]);
+    }
+
+    // Puts a blank and a number.
+    fn put_next(&mut self, n: u64)
+        requires { length self.old + 21 ≤ 92 }
+        ensures { self.new ≡ self.old ++ spaced n }
+    {
+        self.put(b" ");
+        self.put_decimal(n);
+    }
+
+    // Puts three numbers, a blank before each, and the line's end.
+    #[tactic(auto, using(crate::proofs::Appending::spaced_few))]
+    fn put_numbers(&mut self, a: u64, b: u64, c: u64)
+        requires { length self.old + 64 ≤ 92 }
+        ensures { self.new ≡ self.old ++ numbers a b c }
+    {
+        self.put_next(a);
+        self.put_next(b);
+        self.put_next(c);
+        self.put(b"\n");
+    }
+}
+
+// A mask's line: its number, a word and three numbers.
+#[tactic(auto, using(std::proofs::lemmas::Grind::common_steps, crate::proofs::Appending::decimal_few))]
+fn numbered(number: u64, word: &[u8], a: u64, b: u64, c: u64) -> Line
+    requires { length word.now ≤ 7 }
+    ensures { result ≡ line number word.now a b c }
 {
-    let mut digits = [0u8; 20];
-    let count = io::decimal(n, &mut digits);
-    put(&digits[..count], out, at)
+    let mut line = Line::new();
+    line.put_decimal(number);
+    line.put(b" ");
+    line.put(word);
+    line.put_numbers(a, b, c);
+    line
+}
+
+// The line of a mask that is not refused: its number, the verdict, and three numbers of the answer.
+#[tactic(auto, using(crate::proofs::Appending::word_few))]
+pub(crate) fn verdict_line(
+    number: u64,
+    verdict: Verdict,
+    blocks: u64,
+    lowers: u64,
+    uppers: u64,
+) -> Line
+    ensures { result ≡ line number (word verdict) blocks lowers uppers }
+{
+    numbered(number, verdict.word(), blocks, lowers, uppers)
+}
+
+// The line of a refused mask.
+pub(crate) fn refused_line(number: u64, refusal: Refusal) -> Line
+    ensures { result ≡ refused_line number refusal }
+{
+    numbered(number, b"refused", refusal.number() as u64, 0, 0)
+}
+
+// The line of a refused book.
+#[tactic(auto, using(crate::proofs::Appending::digits_few))]
+pub fn book_line(refusal: Refusal) -> Line
+    ensures { result ≡ book_line refusal }
+{
+    let mut line = Line::new();
+    line.put(b"book refused");
+    line.put_next(refusal.number() as u64);
+    line.put(b"\n");
+    line
 }

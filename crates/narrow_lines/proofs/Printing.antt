@@ -7,7 +7,8 @@ use Rattle.lines.specs.declared.Pause.TheVariants.{Full, More, Done}
 use Rattle.lines.specs.declared.Progress.{Progress}
 use Rattle.lines.specs.Output.{lines_from}
 use Rattle.lines.specs.Parts.{remaining, Later, Advances}
-use Rattle.narrow_lines.specs.Prints.{Ends, PrintsMasks}
+use Rattle.narrow_lines.specs.Held.{Ends}
+use Rattle.narrow_lines.specs.Prints.{PrintsMasks}
 
 -- of the lines of what was held and left at first, some text is printed; the rest are the lines of what is held and left now
 pub record Owes (bs : List ℕ) (n₀ : ℕ) (held₀ xs : List ℕ) (w₀ : Option (List ℕ)) (n : ℕ) (held : List ℕ) (a w : Option (List ℕ)) : Type 0 where
@@ -34,6 +35,24 @@ lost : (b : Option (List ℕ)) (ys more : List ℕ) → Consumes (Some ys) b mor
 lost None ys more c = absurd c
 lost (Some zs) ys more c = (zs, refl, c)
 
+-- bytes that are read are held behind the others
+pub going_read : (bs : List ℕ) (n₀ : ℕ) (held₀ : List ℕ) (a₀ w₀ : Option (List ℕ)) (n : ℕ) (held : List ℕ) (ended : Bool) (a w b : Option (List ℕ))
+    (more : List ℕ) (ended' : Bool) → Going bs n₀ held₀ a₀ w₀ n held ended a w → Consumes a b more → Ends ended' b
+    → Going bs n₀ held₀ a₀ w₀ n (held ++ more) ended' b w
+going_read bs n₀ held₀ a₀ w₀ n held ended a w b more ended' g c e = record {
+  ends = e;
+  owes = λ xs is.
+      let o = g.owes xs is in
+      let (zs, b-is, split) = lost b o.left more (rw o.left_is at c) in
+      record {
+        left = zs;
+        left_is = b-is;
+        text = o.text;
+        printed = o.printed;
+        lines = o.lines ∙ ap (λ l. o.text ++ lines_from bs n l) (ap (λ l. held ++ l) split ∙ sym (append_assoc held more zs));
+      };
+}
+
 -- before the end all that remains is still to be printed
 remains : (p : Pause) (lines : List ℕ) → (p ≡ Done → ⊥) → remaining p lines ≡ lines
 remains Full lines h = refl
@@ -49,24 +68,18 @@ module _ (bs : List ℕ) (n₀ : ℕ) (held₀ : List ℕ) (a₀ w₀ : Option (
       let later : Later ended o.left = λ t. rw o.left_is at (g.ends t) in
       o.lines ∙ ap (λ l. o.text ++ l) (step.lines o.left later) ∙ sym (append_assoc o.text (take p.size out) _)
 
-  -- a turn that goes on, with the bytes that are read then
-  pub going_on : (b : Option (List ℕ)) (more : List ℕ) (ended' : Bool) → (p.pause ≡ Done → ⊥) → Consumes a b more → Ends ended' b
-      → Going bs n₀ held₀ a₀ w₀ p.number (drop p.taken held ++ more) ended' b v
-  going_on b more ended' further c e = record {
-    ends = e;
+  -- a turn that goes on
+  pub going_on : (p.pause ≡ Done → ⊥) → Going bs n₀ held₀ a₀ w₀ p.number (drop p.taken held) ended a v
+  going_on further = record {
+    ends = g.ends;
     owes = λ xs is.
         let o = g.owes xs is in
-        let (zs, b-is, split) = lost b o.left more (rw o.left_is at c) in
-        let front = drop p.taken held in
         record {
-          left = zs;
-          left_is = b-is;
+          left = o.left;
+          left_is = o.left_is;
           text = o.text ++ take p.size out;
           printed = Appends-trans w₀ w v o.text (take p.size out) o.printed wrote;
-          lines =
-              turn xs o
-              ∙ ap (λ l. (o.text ++ take p.size out) ++ l)
-              (remains p.pause _ further ∙ ap (λ l. lines_from bs p.number l) (ap (λ l. front ++ l) split ∙ sym (append_assoc front more zs)));
+          lines = turn xs o ∙ ap (λ l. (o.text ++ take p.size out) ++ l) (remains p.pause _ further);
         };
   }
 

@@ -1,3 +1,3 @@
 -- What the program's own functions tell each other.
-pub mod Begun
+pub mod Held
 pub mod Prints

@@ -1,26 +1,17 @@
 -- What is read and what is printed, where it is known which bytes a reader has left and which a writer holds.
-use Rattle.std.specs.Prelude.{ℕ, ◌≡◌, Bool, List, ◌++◌, T, take, drop, Option, IfSome}
-use Rattle.std.specs.Io.KnownBytes.{Appends, Consumes, IsAtEnd}
-use Rattle.lines.specs.declared.Opened.{Opened}
-use Rattle.lines.specs.declared.Opened.TheVariants.{Unopened}
+use Rattle.std.specs.Prelude.{ℕ, List, ◌++◌, Option, Some, Result, Ok, Err, IfSome, MatchResult}
+use Rattle.std.specs.Io.KnownBytes.{Appends, Consumes}
+use Rattle.model.specs.declared.Refusal.{Refusal}
 use Rattle.lines.specs.Output.{lines_from, output}
 use Rattle.lines.specs.Parts.{Opens}
-
--- where the input has ended, the reader has nothing left
-abbrev pub Ends : Bool → Option (List ℕ) → Type 0
-Ends ended left = T ended → IsAtEnd left
-
--- the bytes read stand behind those held, and at the end of input none is left
-pub record Brings (old left : Option (List ℕ)) (size : ℕ) (input : List ℕ) (more : ℕ) (ended : Bool) : Type 0 where
-  pub read : Consumes old left (drop size (take more input))
-  pub ends : Ends ended left
+use Rattle.narrow_lines.specs.declared.input.Input.{Input}
+use Rattle.narrow_lines.specs.Held.{held, ended, Sound, Ends}
 
 -- what the input begins with is settled by the bytes held, which are all that was read
-pub record Begins (old left : Option (List ℕ)) (held : List ℕ) (ended : Bool) (book out : List ℕ) (opened : Opened) : Type 0 where
-  pub read : Consumes old left held
-  pub ends : Ends ended left
-  pub opens : Opens held ended book out opened
-  pub known : opened ≡ Unopened → ⊥
+pub record Begins (input : Input) (begins : Result ℕ Refusal) (had left : Option (List ℕ)) : Type 0 where
+  pub opens : let settles : Result (Option ℕ) Refusal → Type 0 = Opens (held input) (ended input) in
+      MatchResult begins (λ k. settles (Ok (Some k))) (λ r. settles (Err r))
+  pub read : Sound input → Consumes had left (held input) × Ends (ended input) left
 
 -- the lines of the bytes held and of all that the reader had left
 abbrev pub PrintsMasks : List ℕ → ℕ → List ℕ → Option (List ℕ) → Option (List ℕ) → Option (List ℕ) → Type 0

@@ -1,23 +1,40 @@
 -- Each turn prints the first of the lines that are owed, and goes on with those of what is held then.
-use Rattle.std.proofs.Common.{◌++◌, take, drop, ◌∙◌, ap}
-use Rattle.narrow_lines.proofs.Reading.{held_then}
-use Rattle.narrow_lines.proofs.Printing.{going_on, last, prints}
+use Rattle.std.proofs.Common.{◌≡◌, ◌∙◌, ap, IsOk}
+use Rattle.narrow_lines.specs.declared.input.Input.{Input}
+use Rattle.narrow_lines.specs.Held.{held}
+use Rattle.narrow_lines.proofs.Reading.{not_ended}
+use Rattle.narrow_lines.proofs.Printing.{going_on, going_read, last, prints}
 use Rattle.narrow_lines.proofs.print_masks.Goals as goal
+use Rattle.narrow_lines.proofs.print_masks.Goals.{in-Full, in-More}
 
 pub returns-in-Done-clause-prints : goal.returns-in-Done-clause-prints
-returns-in-Done-clause-prints g c none ends =
-    let going = c.loop.invariant.going none ends in
-    prints _ _ _ _ _ _ (λ xs is. last _ _ _ _ _ _ _ _ _ _ _ _ _ going c.run-taken.ensures c.in_ok-write_all.ensures.bytes xs is c.in-Done.is)
+returns-in-Done-clause-prints g c sound ends =
+    let going = c.loop.invariant.going (rw c.take.ensures.end at sound) ends in
+    let step = rw (c.held.ensures, c.ended.ensures) at c.run-taken.ensures in
+    prints _ 1 (held c.args.input.now) _ _ _ (λ xs is. last _ _ _ _ _ _ _ _ _ _ _ _ _ going step c.in_ok-write_all.ensures.bytes xs is c.in-Done.is)
 
 pub loop-preserved : goal.loop-preserved
 loop-preserved g c =
-    let more = c.go_on-held.ensures in
-    record {
-      within = more.kept.within;
-      failed = λ h. c.loop.invariant.failed (more.failed h);
-      going = λ h ends.
-          let going = c.loop.invariant.going (more.failed h) ends in
-          let brings = more.brings h going.ends in
-          let held = held_then _ _ _ _ more.kept ∙ ap (λ l. l ++ drop c.shift-left.result (take c.go_on-held.result.size c.go_on-held.new.input)) c.shift-left.ensures.1 in
-          rw held (going_on _ _ _ _ _ _ _ _ _ _ _ _ _ going c.run-taken.ensures c.in_ok-write_all.ensures.bytes _ _ _ c.in_default.not-Done brings.read brings.ends);
-    }
+    let step = rw (c.held.ensures, c.ended.ensures) at c.run-taken.ensures in
+    elim c.match-pause.branch [
+      | in-Full w ↦
+          let same : c.match-pause.input.end ≡ c.loop.input.end = ap (λ (i : Input). i.end) w.input-is ∙ c.take.ensures.end in
+          record {
+            sound = λ s. c.loop.invariant.sound (rw same at s);
+            going = λ s ends.
+                let going = c.loop.invariant.going (rw same at s) ends in
+                rw (w.input-is, w.reader-is, c.take.ensures.held, c.take.ensures.end)
+                (going_on _ _ _ _ _ _ _ _ _ _ _ _ _ going step c.in_ok-write_all.ensures.bytes (λ done. cc (done, w.in-Full.is)));
+          }
+      | in-More w ↦
+          let sound = not_ended c.loop.input.end (λ r. IsOk r) (rw w.in-More.is at step.why).0 in
+          let reads = w.read_from.ensures in
+          record {
+            sound = λ _. c.loop.invariant.sound sound;
+            going = λ s ends.
+                let going = c.loop.invariant.going sound ends in
+                let read = reads.read (rw w.input-is at s) in
+                let turned = going_on _ _ _ _ _ _ _ _ _ _ _ _ _ going step c.in_ok-write_all.ensures.bytes (λ done. cc (done, w.in-More.is)) in
+                rw (w.input-is, w.reader-is, reads.behind, c.take.ensures.held) (going_read _ _ _ _ _ _ _ _ _ _ _ _ _ turned read.0 read.1);
+          }
+    ]
