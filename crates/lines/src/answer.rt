@@ -31,6 +31,7 @@ fn sum_bounds(written: &[u8], blocks: usize) -> Sums
 }
 
 // The line of a mask whose answer is a verdict and the record written, which is empty for none.
+#[tactic(auto, using(std::proofs::lemmas::Grind::common_steps, crate::proofs::Summing::record_line, crate::proofs::Summing::nothing_line, crate::proofs::Summing::recorded_some))]
 fn answer_line(number: u64, verdict: Verdict, written: &[u8]) -> Line
     requires { Recorded written.now }
     ensures { result ≡ verdict_line number verdict (mask_of written.now) }

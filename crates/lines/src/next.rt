@@ -4,6 +4,7 @@ ghost use Rattle.lines.specs.Parts.{Settles};
 use stream::Next;
 
 // What stands next, or `None` where more input can change that. `ended` says that nothing comes behind the input.
+#[tactic(auto, using(stream::proofs::Following::cut_open, stream::proofs::Following::end_open))]
 pub(crate) fn settled(input: &[u8], ended: bool) -> Option<Next>
     ensures { Settles input.now ended result }
 {
