@@ -1,14 +1,15 @@
 -- The book that an input begins with, whatever comes later.
 -- Assumes nothing.
 use Prim.Native.Nat.{ℕ, ◌*◌, ◌≤◌}
-use mathlib.Core.Path.{◌≡◌, refl, ◌∙◌}
+use mathlib.Core.Path.{◌≡◌, refl, sym, ◌∙◌}
 use mathlib.Core.Bool.{Bool}
 use mathlib.Core.List.{List, ◌++◌, append-nil}
 use native.Mathlib.Nat.{mul-le-mul}
 use native.Mathlib.Omega.{arith}
 use lib.ListN.{length, take, drop}
 use lib.Seq.{take-append-le, drop-append-le, length-take-le}
-use Rattle.std.specs.Prelude.{T, Some, Ok, Err}
+use Rattle.std.specs.Result.{result_map_both}
+use Rattle.std.specs.Prelude.{Result, T, Some, Ok, Err}
 use Rattle.records.specs.declared.Book as records
 use Rattle.model.specs.declared.Refusal.{Refusal}
 use Rattle.model.specs.declared.Refusal.TheVariants.{Unframed}
@@ -46,15 +47,13 @@ module _ (input : List ℕ) (ended : Bool) where
         let (_, _, _, fits) = tell input (Whole k) whole in
         rw (← whole_behind input later k whole, take-append-le k input later fits, drop-append-le k input later fits)
 
-    -- an accepted book
-    pub opens_whole : (b : records.Book) → read_book (take k input) ≡ Ok b → Opens input ended (Ok (Some k))
-    opens_whole b e =
+    -- a book, or its refusal
+    pub opens_whole : (got : Result records.Book Refusal) → got ≡ read_book (take k input) → Opens input ended (result_map_both (λ _. Some k) (λ r. r) got)
+    opens_whole (Ok b) e =
         let (_, _, _, fits) = tell input (Whole k) whole in
-        let none = (book_accepted _ b e).0 in
+        let none = (book_accepted _ b (sym e)).0 in
         (fits, omega (arith, book_few _ none, length-take-le k input fits), λ later. settled later ∙ rw none)
-
-    pub opens_refused : (r : Refusal) → read_book (take k input) ≡ Err r → Opens input ended (Err r)
-    opens_refused r e later h = settled later ∙ taken_refused _ _ r e
+    opens_whole (Err r) e = λ later h. settled later ∙ taken_refused _ _ r (sym e)
 
   -- no whole book: its line is refusal 1
   pub opens_short : Short ≡ next input → Opens input ended (Err Unframed)
