@@ -10,6 +10,9 @@ use crate::{Pause, Progress};
 use model::Refusal;
 use stream::Next;
 
+// The last mask that is read.
+const LAST: u64 = u32::MAX as u64;
+
 // What one mask adds: its line, by so many bytes of input; the last line, where nothing follows; or more input is wanted.
 #[derive(Drop)]
 pub(crate) enum Step {
@@ -74,7 +77,7 @@ pub fn run(
         pause: Pause::Full,
     };
     while LONGEST <= out.len() - progress.size {
-        if 4294967295 < progress.number {
+        if progress.number > LAST {
             progress.pause = Pause::Done;
             return progress;
         }
