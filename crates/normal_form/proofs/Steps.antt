@@ -1,8 +1,9 @@
 -- One block put in front of a normal form: dropped, joined or kept.
 -- Assumes nothing.
-use Rattle.std.proofs.Common.{◌≡◌, ℕ, suc, ◌+◌, ◌-◌, ◌<◌, ◌≤◌, false, List, [], ◌∷◌, get_or, set, refl, ◌∙◌, inl, inr, add_comm, add-one, arith, eq-eqb, ne_eqb}
+use Rattle.std.proofs.lemmas.Grind.{common_steps}
+use Rattle.std.proofs.Common.{◌≡◌, ℕ, suc, ◌+◌, ◌-◌, ◌<◌, ◌≤◌, false, List, [], ◌∷◌, get_or, set, inl, inr, add_comm, arith, eq-eqb}
 use Rattle.std.proofs.lemmas.Bool.{cases_lt}
-use Rattle.std.proofs.lemmas.List.{drop-set, set-get_or}
+use Rattle.std.proofs.lemmas.List.{set-get_or}
 use Rattle.model.specs.declared.Block.{Block}
 use Rattle.model.specs.DashedString.{block}
 use Rattle.model.specs.Size.{Room}
@@ -14,15 +15,12 @@ use Rattle.normal_form.specs.Pushed.{in_front, Pushed}
 -- a block stays in front of blocks that do not begin with its set
 join_apart : (x : Block) (xs : List Block) → Apart x.base xs → join x xs ≡ x ∷ xs
 unfolding join
-join_apart x [] h = refl
-join_apart x (y ∷ ys) h = rw (ne_eqb x.base y.base h)
+join_apart = grind (arith, common_steps)
 
 module _ (a b c : List ℕ) (i end : ℕ) (h : i < end) (e : Enough a b c end) where
   -- where a block was stored as entry i
   pub between_set : (x : Block) → blocks_between (set a i x.base) (set b i x.lower) (set c i x.upper) i end ≡ x ∷ blocks_between a b c (suc i) end
-  between_set x =
-      let more : end - i ≡ suc (end - suc i) = omega arith in
-      rw (more, ← add-one i, drop-set a i x.base (omega arith), drop-set b i x.lower (omega arith), drop-set c i x.upper (omega arith))
+  between_set = grind (arith, common_steps, between_cons)
 
 -- block x, which is block i, and the entries from at up to end
 module _ (a b c : List ℕ) (i at end : ℕ) (e : Enough a b c end) (o : (i < at) × (at ≤ end)) (x : Block) (is : x ≡ numbered a b c i) where
@@ -34,13 +32,7 @@ module _ (a b c : List ℕ) (i at end : ℕ) (e : Enough a b c end) (o : (i < at
   -- a block y is stored as entry p
   stored : (p : ℕ) (y : Block) → i ≤ p → p ≤ at → p < end → y ∷ blocks_between a b c (suc p) end ≡ in_front x (blocks_between a b c at end)
       → Pushed a b c i at end (set a p y.base) (set b p y.lower) (set c p y.upper) p
-  stored p y f g h k =
-      record {
-        behind = f;
-        within = g;
-        before = λ j n. stored_other a b c p y j (λ (d : j ≡ p). omega arith);
-        made = between_set a b c p end h e y ∙ rw is at k;
-      }
+  stored = grind (arith, between_set, stored_other)
 
   -- with the set of the first entry: it becomes one with that
   pub pushed_joined : idle x ≡ false → at < end → x.base ≡ get_or a at 0

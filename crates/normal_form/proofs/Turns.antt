@@ -1,9 +1,10 @@
 -- The normal form of the last blocks of three lists, and of one block more.
 -- Assumes nothing.
-use Rattle.std.proofs.Common.{◌≡◌, ℕ, zero, suc, ◌-◌, ◌<◌, ◌≤◌, Bool, true, false, cond, List, [], ◌∷◌, refl, arith}
+use Rattle.std.proofs.lemmas.Grind.{common_steps}
+use Rattle.std.proofs.Common.{◌≡◌, ℕ, zero, suc, ◌-◌, ◌<◌, ◌≤◌, List, [], ◌∷◌, arith}
 use Rattle.model.specs.declared.Block.{Block}
 use Rattle.model.specs.Size.{Room}
-use Rattle.model.specs.NormalForm.{idle, dropped, join, joined, normal}
+use Rattle.model.specs.NormalForm.{dropped, joined, normal}
 use Rattle.model.proofs.Room.{normal_room}
 use Rattle.records.specs.Written.{numbered, blocks_of, blocks_between, Enough}
 use Rattle.records.proofs.Copies.{between_cons}
@@ -12,16 +13,12 @@ use Rattle.normal_form.specs.Pushed.{in_front}
 -- the normal form of one block more
 normal_cons : (x : Block) (xs : List Block) → normal (x ∷ xs) ≡ in_front x (normal xs)
 unfolding normal dropped joined
-normal_cons x xs = go (idle x)
-  where
-    go : (t : Bool) → joined (cond t (dropped xs) (x ∷ dropped xs)) ≡ cond t (normal xs) (join x (normal xs))
-    go true = refl
-    go false = refl
+normal_cons = grind (arith, common_steps)
 
 -- of no block
 pub normal_none : (a b c : List ℕ) (n : ℕ) → blocks_between a b c n n ≡ normal (blocks_between a b c n n)
 unfolding normal dropped joined
-normal_none a b c n = let none : n - n ≡ 0 = omega arith in rw none
+normal_none = grind (arith, common_steps)
 
 module _ (a b c : List ℕ) (count : ℕ) (e : Enough a b c count) where
   -- of the block before those from i on, and those
