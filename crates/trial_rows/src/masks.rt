@@ -2,22 +2,17 @@
 ghost use Rattle.std.specs.Prelude.{◌≡◌, ◌+◌, ◌*◌, ◌≤◌, length};
 ghost use Rattle.records.specs.Mask.{count};
 
-use case_text::show;
 use model::Block;
-use records::MaskOrRefusal;
 use std::io;
 use std::io::Write;
 
 // Writes the blocks of a kind 2 record.
+#[tactic(auto, using(records::proofs::Answers::mask_holds))]
 pub fn mask(out: &mut impl Write, bytes: &[u8]) -> io::Result<()> {
     match records::read_mask(bytes) {
-        MaskOrRefusal::Refused(_) => show::text(out, b"unreadable answer"),
-        MaskOrRefusal::Accepted(mask) => {
-            if mask.blocks == 0 {
-                return show::text(out, b"no blocks");
-            }
-            blocks(out, bytes, mask.blocks)
-        }
+        Err(_) => out.write_all(b"unreadable answer"),
+        Ok(mask) if mask.blocks == 0 => out.write_all(b"no blocks"),
+        Ok(mask) => blocks(out, bytes, mask.blocks),
     }
 }
 
@@ -27,7 +22,7 @@ fn blocks(out: &mut impl Write, bytes: &[u8], blocks: usize) -> io::Result<()>
 {
     for i in 0..blocks {
         if 0 < i {
-            show::text(out, b", ")?;
+            out.write_all(b", ")?;
         }
         block(out, records::read_block(bytes, i))?;
     }
@@ -36,24 +31,18 @@ fn blocks(out: &mut impl Write, bytes: &[u8], blocks: usize) -> io::Result<()>
 
 // Writes the set and the bounds of a block.
 pub fn block(out: &mut impl Write, block: Block) -> io::Result<()> {
-    show::text(out, b"{")?;
+    out.write_all(b"{")?;
     letters(out, block.base)?;
-    show::text(out, b"} ")?;
-    show::number(out, block.lower as u64)?;
-    show::text(out, b"-")?;
-    show::number(out, block.upper as u64)
+    write!(out, "}} {}-{}", block.lower, block.upper)
 }
 
 // Writes the letters of a set.
 fn letters(out: &mut impl Write, set: u64) -> io::Result<()> {
-    let mut rest = set;
-    while 0 < rest {
-        if rest != set {
-            show::text(out, b",")?;
+    for (i, letter) in bitset::members(set).enumerate() {
+        if 0 < i {
+            out.write_all(b",")?;
         }
-        let letter = bitset::first_member(rest);
-        show::number(out, letter as u64)?;
-        rest = bitset::without_first(rest);
+        write!(out, "{letter}")?;
     }
     Ok(())
 }
