@@ -10,7 +10,11 @@ use crate::{Pause, Progress};
 use model::Refusal;
 use stream::Next;
 
-// What one mask adds: its line, by so many bytes of input; the last line, where nothing follows; or more input is wanted.
+// The last mask that is read.
+const LAST: u64 = u32::MAX as u64;
+
+// What one mask adds: its line, the mask being of so many bytes; the last line, behind which nothing is printed; or more input
+// is wanted.
 #[derive(Drop)]
 pub(crate) enum Step {
     Passed { taken: usize, line: Line },
@@ -18,7 +22,7 @@ pub(crate) enum Step {
     Wanting,
 }
 
-// The mask that stands next in `rest`. `answer` is room for narrow's answer.
+// What the mask that stands next in `rest` adds. `answer` is room for narrow's answer.
 pub(crate) fn next_line(
     book: &[u8],
     rest: &[u8],
@@ -74,7 +78,7 @@ pub fn run(
         pause: Pause::Full,
     };
     while LONGEST <= out.len() - progress.size {
-        if 4294967295 < progress.number {
+        if progress.number > LAST {
             progress.pause = Pause::Done;
             return progress;
         }

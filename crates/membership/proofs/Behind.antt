@@ -1,12 +1,8 @@
 -- A mask with one block more behind it, and the pieces of that block by the positions of a word.
 -- Assumes nothing.
-use Prim.Native.Nat.{ℕ, zero, suc, ◌+◌, ◌-◌, ◌≤◌, ◌<◌}
-use mathlib.Core.Path.{◌≡◌, refl, ap}
-use mathlib.Core.Logic.{◌↔◌}
-use mathlib.Core.List.{List, [], ◌∷◌, ◌++◌, append-nil, append_assoc}
-use native.Mathlib.Omega.{arith}
-use lib.ListN.{length, get_or, take, drop, length-append, length-drop, take-append-drop}
-use lib.Seq.{take-append_seam, drop-append_seam, length-take-le, take-take, get_or-take, get_or-drop}
+use Rattle.std.proofs.lemmas.Grind.{common_steps}
+use Rattle.std.proofs.Common.{◌≡◌, ℕ, zero, suc, ◌+◌, ◌-◌, ◌<◌, ◌≤◌, ◌↔◌, List, [], ◌∷◌, ◌++◌, length, get_or, take, drop, refl, ap, append_assoc, append-nil, arith, length-append, length-drop, take-append-drop, length-take-le, get_or-drop, get_or-take, take-take}
+use lib.Seq.{take-append_seam, drop-append_seam}
 use Rattle.model.specs.declared.Block.{Block}
 use Rattle.model.specs.Set.{Member}
 use Rattle.model.specs.DashedString.{Within, nil, cons, Piece, Matches}
@@ -39,15 +35,7 @@ concat_at A B w = (
 -- up to position j: the mask spells up to some position, and the block from there
 pub behind_at : (xs : List Block) (x : Block) (w : List ℕ) (j : ℕ) → j ≤ length w
     → Matches (xs ++ x ∷ []) (take j w) ↔ ((i : ℕ) × (i ≤ j) × Matches xs (take i w) × Piece x (drop i (take j w)))
-behind_at xs x w j h = (
-  λ m.
-      let (i, l, n, a) = (concat_at (Matches xs) (Piece x) (take j w)).0 ((matches_behind xs x (take j w)).0 m) in
-      let at : i ≤ j = rw (length-take-le j w h) at l in
-      (i, at, rw (take-take i j w at) at n, a),
-  λ (i, l, n, a).
-      (matches_behind xs x (take j w)).1
-      ((concat_at (Matches xs) (Piece x) (take j w)).1 (i, rw (length-take-le j w h) l, rw (take-take i j w l) n, a)),
-)
+behind_at xs x w j h = grind (arith, common_steps, matches_behind xs x (take j w), concat_at (Matches xs) (Piece x) (take j w), take-take, length-take-le j w h)
 
 -- each letter of a word within a set is in the set
 within_letters : {S : ℕ} {w : List ℕ} → Within S w → (k : ℕ) → k < length w → Member (get_or w k 0) S
@@ -67,16 +55,9 @@ piece_at x w i j l h = (
   λ a. (
     omega (arith, size, a.enough),
     omega (arith, size, a.few),
-    λ k g m.
-        let e : i + (k - i) ≡ k = omega arith in
-        rw (letter (k - i) (omega arith), e) at (within_letters a.within (k - i) (omega (arith, size))),
+    λ k g m. grind (arith, size, letter (k - i), within_letters a.within (k - i)),
   ),
-  λ (b, u, f).
-      record {
-        within = letters_within x.base (drop i (take j w)) (λ n g. rw (letter n (omega (arith, size))) (f (i + n) (omega arith) (omega (arith, size))));
-        enough = omega (arith, size);
-        few = omega (arith, size);
-      },
+  λ (b, u, f). grind (arith, size, letters_within x.base (drop i (take j w)) (λ n g. rw (letter n (omega (arith, size))) (f (i + n) (omega arith) (omega (arith, size))))),
 )
   where
     size : length (drop i (take j w)) ≡ j - i

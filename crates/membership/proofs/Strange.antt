@@ -1,10 +1,9 @@
 -- Check 13: what it leaves of a word.
 -- Assumes nothing.
-use Rattle.std.proofs.Common.{◌≡◌, ℕ, false, leb, ◌↔◌, List, refl}
+use Rattle.std.proofs.Common.{◌≡◌, ℕ, false, leb, ◌↔◌, List, refl, arith}
 use Rattle.std.proofs.lemmas.List.Folds.{list_any_at}
 use Rattle.std.proofs.lemmas.List.Recursion.{or_from_places}
 use Rattle.std.specs.List.{list_any}
-use native.Mathlib.Omega.{arith}
 use Rattle.membership.specs.Word.{strange, Letters}
 
 -- no letter is m or above: each is below m

@@ -1,7 +1,6 @@
 -- Every row holds of the definitions, by computing both sides.
 -- Assumes nothing.
-use mathlib.Core.Path.{refl}
-use mathlib.Core.List.{◌++◌}
+use Rattle.std.proofs.Common.{◌++◌, refl}
 use Rattle.model.specs.Set.{has, some_below, union_below, one_member}
 use Rattle.model.specs.Automaton.{next}
 use Rattle.model.specs.Passes.{reach, after, before, between, rounds, first, fewest, forward, backward, pruned, final, kept, entries, finals, narrowed_list}

@@ -1,12 +1,8 @@
 -- A cut along the blocks is a cut along the segments: each piece's first l letters one by one, and the rest. So the row
 -- of segments spells what the mask spells.
 -- Assumes nothing.
-use mathlib.Core.Path.{◌≡◌, refl, sym, ap, ap₂, ◌∙◌}
-use mathlib.Core.Logic.{◌↔◌}
-use mathlib.Core.List.{List, [], ◌∷◌, ◌++◌, map, flatten}
-use Prim.Native.Nat.{ℕ, zero, suc, ◌+◌, ◌-◌, ◌≤◌, zero-le}
-use native.Mathlib.Omega.{arith}
-use lib.ListN.{length, replicate}
+use Rattle.std.proofs.Common.{◌≡◌, ℕ, zero, suc, ◌+◌, ◌-◌, ◌≤◌, ◌↔◌, List, [], ◌∷◌, ◌++◌, map, length, replicate, sym, refl, ap, ◌∙◌, ap₂, zero-le, arith}
+use mathlib.Core.List.{flatten}
 use Rattle.model.specs.declared.Block.{Block}
 use Rattle.model.specs.DashedString.{block, Each, Bounded, Within, nil, cons, Factorization, done, then, Matches}
 use Rattle.model.specs.Passes.{Segment, mandatory, optional, segments}
@@ -71,7 +67,4 @@ glued (x ∷ xs) ok h =
 
 -- the row of segments spells what the mask spells
 pub segments_spell : (xs : List Block) → Each Bounded xs → (w : List ℕ) → Matches (map as_block (segments xs)) w ↔ Matches xs w
-segments_spell xs ok w = (
-  λ (qs, r, e). let (ps, f, g) = glued xs ok r in (ps, f, rw (← flatten_chop f, g) e),
-  λ (ps, f, e). (chop xs ps, chopped f, rw (flatten_chop f) e),
-)
+segments_spell = grind (arith, chopped, glued, flatten_chop)

@@ -1,24 +1,20 @@
 -- Demand 3 holds of the definitions: for every book and mask that pass the checks, one theorem.
 -- Assumes nothing.
-use mathlib.Core.Path.{◌≡◌, refl, ap, sym}
-use mathlib.Core.Logic.{◌↔◌, ◌⊎◌, inl, inr, ⊎_elim}
-use mathlib.Core.Bool.{Bool, true, false, not}
-use mathlib.Core.List.{List, [], flatten}
-use Prim.Native.Nat.{ℕ, suc, ◌+◌, ◌-◌, ◌^◌, ◌<◌}
-use native.Mathlib.Omega.{arith}
-use lib.Dec.{T, T_not, not_T}
-use lib.ListN.{length, get_or}
+use Rattle.std.proofs.lemmas.Grind.{common_steps}
+use Rattle.std.proofs.Common.{◌≡◌, ℕ, suc, ◌+◌, ◌^◌, ◌<◌, Bool, not, T, ◌⊎◌, ◌↔◌, List, [], length, get_or, sym, refl, ap, ⊎_elim, arith, T_not}
+use mathlib.Core.List.{flatten}
+use lib.Dec.{not_T}
 use Rattle.model.specs.declared.Block.{Block}
 use Rattle.model.specs.declared.Verdict.{Verdict}
-use Rattle.model.specs.declared.Verdict.TheVariants.{None, All, One, Some}
+use Rattle.model.specs.declared.Verdict.TheVariants.{None, All}
 use Rattle.model.specs.Set.{has, Member}
 use Rattle.model.specs.DashedString.{block, block_at, Matches}
 use Rattle.model.specs.Automaton.{Dfa, run, Accepts}
 use Rattle.model.specs.Legal.{Legal, Checked}
 use Rattle.model.specs.Passes.{segments, finals, narrowed_list}
 use Rattle.model.specs.NormalForm.{normal}
-use Rattle.model.specs.Verdict.{number, narrowed_mask, single, every, say, some_legal, some_illegal, verdict}
-use Rattle.model.specs.Place.{begins, entry_of, unless_none, place}
+use Rattle.model.specs.Verdict.{narrowed_mask, some_legal, some_illegal, verdict}
+use Rattle.model.specs.Place.{begins, entry_of, place}
 use Rattle.model.specs.Demand3.{Has, Puts, listed, Demand3}
 use Rattle.model.proofs.Set.{member, in_none, in_one, some_member_lem}
 use Rattle.model.proofs.Segment.{pruned_exact}
@@ -29,31 +25,13 @@ use Rattle.model.proofs.Listed.{listed_whole}
 use Rattle.model.proofs.NormalForm.{normal_spells}
 use Rattle.model.proofs.Room.{narrow_bounded}
 
--- the first verdict that fits is none exactly when no code is legal
-say_none : (legal illegal singles : Bool) → (say legal illegal singles ≡ None) ↔ (¬ T legal)
-say_none false i s = (λ _ h. h, λ _. refl)
-say_none true false s = (λ e _. omega (arith, ap number e), λ h. absurd (h tt))
-say_none true true true = (λ e _. omega (arith, ap number e), λ h. absurd (h tt))
-say_none true true false = (λ e _. omega (arith, ap number e), λ h. absurd (h tt))
-
--- and all exactly when some code is legal and none is not
-say_all : (legal illegal singles : Bool) → (say legal illegal singles ≡ All) ↔ (T legal × ¬ T illegal)
-say_all false i s = (λ e. absurd (omega (arith, ap number e)), λ h. absurd h.0)
-say_all true false s = (λ _. (tt, λ h. h), λ _. refl)
-say_all true true true = (λ e. absurd (omega (arith, ap number e)), λ h. absurd (h.1 tt))
-say_all true true false = (λ e. absurd (omega (arith, ap number e)), λ h. absurd (h.1 tt))
-
 -- a verdict is none or it is not
 pub none_or_not : (v : Verdict) → (v ≡ None) ⊎ (¬ (v ≡ None))
-none_or_not None = inl refl
-none_or_not All = inr (λ e. omega (arith, ap number e))
-none_or_not One = inr (λ e. omega (arith, ap number e))
-none_or_not Some = inr (λ e. omega (arith, ap number e))
+none_or_not = grind arith
 
 -- what is not refuted by a test holds of it
 pub stable : (v : Bool) → ¬ (¬ T v) → T v
-stable true h = tt
-stable false h = h (λ f. f)
+stable = grind arith
 
 module _ (b : Dfa) (xs : List Block) (ok : Checked b xs) where
   -- ---- the verdict
@@ -73,13 +51,7 @@ module _ (b : Dfa) (xs : List Block) (ok : Checked b xs) where
   -- E is not empty exactly when some code is legal
   some_legal_lem : T (some_legal b xs) ↔ ((w : List ℕ) × Legal b xs w)
   unfolding some_legal
-  some_legal_lem = (
-    λ h.
-        let (r, m, a) = (some_member_lem (finals b xs) (has b.accepting)).0 h in
-        let (w, s, e) = in_finals.0 m in
-        (w, (s, rw e (member m.small a))),
-    λ (w, (s, a)). (some_member_lem (finals b xs) (has b.accepting)).1 (run b.table b.start w, in_finals.1 (w, s, refl), a.there),
-  )
+  some_legal_lem = grind (arith, some_member_lem, in_finals)
 
   -- a final state does not accept exactly when some code is not legal
   some_illegal_lem : T (some_illegal b xs) ↔ ((w : List ℕ) × Matches xs w × ¬ Accepts b w)
@@ -98,30 +70,16 @@ module _ (b : Dfa) (xs : List Block) (ok : Checked b xs) where
   -- none exactly when no code is legal
   none_exact : (verdict b xs ≡ None) ↔ ((w : List ℕ) → ¬ Legal b xs w)
   unfolding verdict
-  none_exact = (
-    λ e w l. said.0 e (some_legal_lem.1 (w, l)),
-    λ h. said.1 (λ g. let (w, l) = some_legal_lem.0 g in h w l),
-  )
-    where
-      said : (verdict b xs ≡ None) ↔ (¬ T (some_legal b xs))
-      said = say_none (some_legal b xs) (some_illegal b xs) (every single (narrowed_mask b xs))
+  none_exact = grind (arith, common_steps, some_legal_lem)
 
   -- where no code is illegal, each is accepted
   accepted : ¬ T (some_illegal b xs) → (w : List ℕ) → Matches xs w → Accepts b w
-  accepted i w s =
-      member (in_finals.1 (w, s, refl)).small
-      (stable (has b.accepting (run b.table b.start w)) (λ n. i (some_illegal_lem.1 (w, s, λ a. n a.there))))
+  accepted = grind (arith, in_finals, some_illegal_lem, stable)
 
   -- all exactly when there is a code and all are legal
   all_exact : (verdict b xs ≡ All) ↔ (((w : List ℕ) × Matches xs w) × ((w : List ℕ) → Matches xs w → Legal b xs w))
   unfolding verdict
-  all_exact = (
-    λ e. let (l, i) = said.0 e in let (w, (s, a)) = some_legal_lem.0 l in ((w, s), λ w s. (s, accepted i w s)),
-    λ ((w, s), f). said.1 (some_legal_lem.1 (w, f w s), λ g. let (w, s, n) = some_illegal_lem.0 g in n (f w s).1),
-  )
-    where
-      said : (verdict b xs ≡ All) ↔ (T (some_legal b xs) × ¬ T (some_illegal b xs))
-      said = say_all (some_legal b xs) (some_illegal b xs) (every single (narrowed_mask b xs))
+  all_exact = grind (arith, common_steps, some_legal_lem, some_illegal_lem, accepted)
 
   -- ---- the narrowed mask
 
@@ -152,29 +110,17 @@ module _ (b : Dfa) (xs : List Block) (ok : Checked b xs) where
   entry_exact i j c h l =
       let x = block_at xs i in
       let s = seen_at b xs ok i j h (omega arith) in
-      let P : List ℕ → Type 0 = λ p. get_or p 0 64 ≡ c in
-      let exact = pruned_exact b.table ok.states x.base s.from s.to {c = c} in (
-        λ m.
-            let (ps, f, a, e) = (s.ways P).0 (rw (place_segment x j l) (exact.0 (rw (s.entry, place_segment x j l) at m))) in
-            (ps, f, a, rw (along_letter x.lower j (get_or ps i []) l) at e),
-        λ (ps, f, a, e).
-            rw (s.entry, place_segment x j l)
-            (exact.1 (rw (place_segment x j l) at ((s.ways P).1 (ps, f, a, rw (along_letter x.lower j (get_or ps i []) l) e)))),
+      let (letter, back) = pruned_exact b.table ok.states x.base s.from s.to {c = c} in
+      let (there, way) = rw (place_segment x j l) at (s.ways (λ p. get_or p 0 64 ≡ c)) in
+      rw (s.entry, place_segment x j l) (
+        λ m. let (ps, f, a, e) = there (letter m) in (ps, f, a, rw (along_letter x.lower j (get_or ps i []) l) at e),
+        λ (ps, f, a, e). back (way (ps, f, a, rw (along_letter x.lower j (get_or ps i []) l) e)),
       )
 
   -- where the verdict is not none, place returns the entry
   shown : ¬ (verdict b xs ≡ None) → (i j : ℕ) → place b xs (suc i) j ≡ get_or (narrowed_list b xs) (entry_of xs i j) (block 0 0 0)
   unfolding place
-  shown h i j = rw down (unless (verdict b xs) h)
-    where
-      down : suc i - 1 ≡ i
-      down = omega arith
-
-      unless : (v : Verdict) → ¬ (v ≡ None) → {x : Block} → unless_none v x ≡ x
-      unless None h = absurd (h refl)
-      unless All h = refl
-      unless One h = refl
-      unless Some h = refl
+  shown = grind (arith, common_steps)
 
   -- for none it returns the empty set and 0, 0
   hidden : verdict b xs ≡ None → (i j : ℕ) → place b xs i j ≡ block 0 0 0
@@ -183,10 +129,11 @@ module _ (b : Dfa) (xs : List Block) (ok : Checked b xs) where
 
   -- the set that place returns has those letters; for none it is empty, and no code is legal
   places : (i j c : ℕ) → i < length xs → j < (block_at xs i).lower → Member c (place b xs (suc i) (suc j)).base ↔ Has b xs (Puts c i j)
-  places i j c h l = ⊎_elim empty (λ n. rw (shown n) (entry_exact i j c h l)) (none_or_not (verdict b xs))
-    where
-      empty : verdict b xs ≡ None → Member c (place b xs (suc i) (suc j)).base ↔ Has b xs (Puts c i j)
-      empty e = (λ m. absurd (in_none (rw (hidden e) at m)), λ (ps, f, a, _). absurd (none_exact.0 e (flatten ps) ((ps, f, refl), a)))
+  places i j c h l =
+      let Exact : Type 0 = Member c (place b xs (suc i) (suc j)).base ↔ Has b xs (Puts c i j) in
+      let empty : verdict b xs ≡ None → Exact
+      = λ e. (λ m. absurd (in_none (rw (hidden e) at m)), λ (ps, f, a, _). absurd (none_exact.0 e (flatten ps) ((ps, f, refl), a))) in
+      ⊎_elim empty (λ n. rw (shown n) (entry_exact i j c h l)) (none_or_not (verdict b xs))
 
   -- the narrowed mask is the normal form of the list that place shows
   mask : ¬ (verdict b xs ≡ None) → narrowed_mask b xs ≡ normal (listed (place b xs) xs)

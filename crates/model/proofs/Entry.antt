@@ -1,13 +1,7 @@
 -- Every entry of the narrowed list by the cuts of the legal codes (`seen_at`): all that is claimed of an entry follows.
 -- Assumes nothing.
-use mathlib.Core.Path.{◌≡◌, refl, ap, ◌∙◌}
-use mathlib.Core.Logic.{◌↔◌}
-use mathlib.Core.List.{List, [], ◌∷◌, ◌++◌}
-use Prim.Native.Nat.{ℕ, zero, suc, ◌+◌, ◌-◌, ◌^◌, ◌≤◌, ◌<◌}
-use native.Mathlib.Nat.{zero-add}
-use native.Mathlib.Omega.{arith}
-use lib.ListN.{length, get_or, replicate, length-append, length-replicate, get_or-append, get_or-replicate}
-use lib.Seq.{get_or-append-add}
+use Rattle.std.proofs.lemmas.Grind.{common_steps}
+use Rattle.std.proofs.Common.{◌≡◌, ℕ, zero, suc, ◌+◌, ◌^◌, ◌<◌, ◌≤◌, ◌↔◌, List, [], ◌∷◌, ◌++◌, length, get_or, refl, arith, get_or-append-add}
 use Rattle.model.specs.declared.Block.{Block}
 use Rattle.model.specs.Set.{Member}
 use Rattle.model.specs.DashedString.{block, block_at, Factorization, done, then}
@@ -26,41 +20,36 @@ use Rattle.model.proofs.Cut.{along, chop, chopped, glued, flatten_chop}
 -- a piece has l + 1 parts along its block
 length_along : (l : ℕ) (p : List ℕ) → length (along l p) ≡ suc l
 length_along zero p = refl
-length_along (suc l) [] = ap suc (length_along l [])
-length_along (suc l) (c ∷ p) = ap suc (length_along l p)
+length_along (suc l) [] = grind (arith, length_along l [])
+length_along (suc l) (c ∷ p) = grind (arith, length_along l p)
 
 -- and a block l + 1 segments
 length_segments : (x : Block) → length (segments_of x) ≡ suc x.lower
-length_segments x = simp (length-append, length-replicate) (omega arith)
+length_segments = grind (arith, common_steps)
 
 -- behind the l + 1 entries of a block come those of the others
 get_or_skip {ℓ} : {A : Type ℓ} (l a j : ℕ) (xs ys : List A) (d : A) → length xs ≡ suc l → get_or (xs ++ ys) (suc (l + a) + j) d ≡ get_or ys (a + j) d
-get_or_skip l a j xs ys d e =
-    let e' : suc (l + a) + j ≡ length xs + (a + j) = omega arith in
-    rw (e', get_or-append-add)
+get_or_skip l a j xs ys d e = let same : suc (l + a) + j ≡ length xs + (a + j) = omega arith in rw (same, get_or-append-add)
 
 -- a block's entries are entries of the row
 begins_lt : (xs : List Block) (i j : ℕ) → i < length xs → j ≤ (block_at xs i).lower → begins xs i + j < length (segments xs)
 begins_lt [] i j h l = absurd (omega arith)
-begins_lt (x ∷ xs) zero j h l = simp (length-append, length-replicate) (omega arith)
-begins_lt (x ∷ xs) (suc i) j h l = simp (length-append, length-replicate) (omega (arith, begins_lt xs i j (omega arith) l))
+begins_lt (x ∷ xs) zero j h l = grind (arith, common_steps)
+begins_lt (x ∷ xs) (suc i) j h l = grind (arith, common_steps, begins_lt xs i j)
 
 -- a block's segments stand where its entries begin
 segment_at : (xs : List Block) (i j : ℕ) → i < length xs → j ≤ (block_at xs i).lower
     → get_or (segments xs) (begins xs i + j) (optional 0 0) ≡ get_or (segments_of (block_at xs i)) j (optional 0 0)
 segment_at [] i j h l = absurd (omega arith)
-segment_at (x ∷ xs) zero j h l = rw zero-add (get_or-append (segments_of x) (segments xs) (optional 0 0) j (omega (arith, length_segments x)))
-segment_at (x ∷ xs) (suc i) j h l =
-    get_or_skip x.lower (begins xs i) j (segments_of x) (segments xs) (optional 0 0) (length_segments x) ∙ segment_at xs i j (omega arith) l
+segment_at (x ∷ xs) zero j h l = grind (arith, common_steps)
+segment_at (x ∷ xs) (suc i) j h l = grind (arith, common_steps, get_or_skip, segment_at xs i j)
 
 -- and so do the parts of its piece
 part_at : {xs : List Block} {ps : List (List ℕ)} → Factorization xs ps → (i j : ℕ) → i < length xs → j ≤ (block_at xs i).lower
     → get_or (chop xs ps) (begins xs i + j) [] ≡ get_or (along (block_at xs i).lower (get_or ps i [])) j []
 part_at done i j h l = absurd (omega arith)
-part_at (then {x} {xs} {p} {ps} g f) zero j h l =
-    rw zero-add (get_or-append (along x.lower p) (chop xs ps) [] j (omega (arith, length_along x.lower p)))
-part_at (then {x} {xs} {p} {ps} g f) (suc i) j h l =
-    get_or_skip x.lower (begins xs i) j (along x.lower p) (chop xs ps) [] (length_along x.lower p) ∙ part_at f i j (omega arith) l
+part_at (then {x} {xs} {p} {ps} g f) zero j h l = grind (arith, common_steps, length_along x.lower p)
+part_at (then {x} {xs} {p} {ps} g f) (suc i) j h l = grind (arith, common_steps, get_or_skip, length_along x.lower p, part_at f i j)
 
 -- ---- mandatory places
 
@@ -74,11 +63,7 @@ along_letter (suc l) (suc j) (c ∷ p) h = along_letter l j p (omega arith)
 
 -- a mandatory place of a block is a segment of its letters
 pub place_segment : (x : Block) (j : ℕ) → j < x.lower → get_or (segments_of x) j (optional 0 0) ≡ mandatory x.base
-place_segment x j h =
-    let places = replicate x.lower (mandatory x.base) in
-    let short = length-replicate x.lower (mandatory x.base) in
-    get_or-append places (optional x.base (x.upper - x.lower) ∷ []) (optional 0 0) j (omega (arith, short))
-    ∙ get_or-replicate x.lower j (mandatory x.base) (optional 0 0) h
+place_segment = grind (arith, common_steps)
 
 -- ---- every entry by the cuts of the legal codes
 
@@ -89,10 +74,7 @@ module _ (b : Dfa) (xs : List Block) (ok : Checked b xs) where
 
   -- pieces along the row that lead from the start to an accepting state are a cut of a legal code
   cuts : (P : List (List ℕ) → Type 0) → ((q : ℕ) × Member q (2 ^ b.start) × Ahead b q (segments xs) P) ↔ Has b xs (λ ps. P (chop xs ps))
-  cuts P = (
-    λ (q, m, (qs, r, e, x)). let (ps, f, g) = glued xs ok.bounds r in (ps, f, rw (← flatten_chop f, g, ← in_one m) e, rw g x),
-    λ (ps, f, e, x). (b.start, start_in, (chop xs ps, chopped f, rw (flatten_chop f) e, x)),
-  )
+  cuts P = grind (arith, glued, chopped, flatten_chop, in_one, start_in)
 
   -- what the entry of place j + 1 of block i is, and for j = l that of its optional part: its segment pruned between two
   -- sets of states, between which a way with a property leads over the segment exactly when some legal code, in some cut,
@@ -109,17 +91,15 @@ module _ (b : Dfa) (xs : List Block) (ok : Checked b xs) where
   pub seen_at : (i j : ℕ) → i < length xs → j ≤ (block_at xs i).lower → SeenAt i j
   unfolding narrowed_list
   seen_at i j h l =
-      let k = begins xs i + j in
-      let s = seen b ok.states (2 ^ b.start) (segments xs) k (begins_lt xs i j h l) in
+      let s = seen b ok.states (2 ^ b.start) (segments xs) (begins xs i + j) (begins_lt xs i j h l) in
       record {
         from = s.from;
         to = s.to;
         entry = rw (segment_at xs i j h l) at s.entry;
-        ways = λ P. (
-          λ g.
-              let (ps, f, e, x) = (cuts (λ qs. P (get_or qs k []))).0 ((s.ways P).0 (rw (segment_at xs i j h l) g)) in
-              (ps, f, e, rw (part_at f i j h l) at x),
-          λ (ps, f, e, x).
-              rw (segment_at xs i j h l) at ((s.ways P).1 ((cuts (λ qs. P (get_or qs k []))).1 (ps, f, e, rw (part_at f i j h l) x))),
-        );
+        ways = λ P.
+            let (there, back) = rw (segment_at xs i j h l) at (s.ways P) in
+            let (cut, row) = cuts (λ qs. P (get_or qs (begins xs i + j) [])) in (
+              λ g. let (ps, f, e, x) = cut (there g) in (ps, f, e, rw (part_at f i j h l) at x),
+              λ (ps, f, e, x). back (row (ps, f, e, rw (part_at f i j h l) x)),
+            );
       }

@@ -1,12 +1,8 @@
 -- The narrowed list, read entry by entry as place reads it, is the narrowed list.
 -- Assumes nothing.
-use mathlib.Core.Path.{◌≡◌, refl, sym, ap₂, ◌∙◌}
-use mathlib.Core.List.{List, [], ◌∷◌}
-use Prim.Native.Nat.{ℕ, zero, suc, ◌+◌, ◌≤◌}
-use native.Mathlib.Nat.{zero-add}
-use native.Mathlib.Omega.{arith}
-use lib.ListN.{length, get_or, take, drop, length-drop, length-append, length-replicate}
-use lib.Seq.{split_at, get_or-drop}
+use Rattle.std.proofs.Common.{◌≡◌, ℕ, zero, suc, ◌+◌, ◌≤◌, List, [], ◌∷◌, length, get_or, take, drop, sym, refl, ◌∙◌, ap₂, zero-add, arith, length-append, length-drop, get_or-drop}
+use lib.ListN.{length-replicate}
+use lib.Seq.{split_at}
 use Rattle.model.specs.declared.Block.{Block}
 use Rattle.model.specs.DashedString.{values, block}
 use Rattle.model.specs.Passes.{segments}
@@ -21,8 +17,7 @@ values_take f (y ∷ ys) (suc k) l h = ap₂ ◌∷◌ (h 0) (values_take (λ j.
 
 -- the entries of the second block on stand behind the l + 1 of the first
 entry_of_skip : (x : Block) (xs : List Block) (i j : ℕ) → entry_of (x ∷ xs) (suc i) j ≡ suc x.lower + entry_of xs i j
-entry_of_skip x xs i zero = omega arith
-entry_of_skip x xs i (suc j) = omega arith
+entry_of_skip = grind arith
 
 -- a list of an entry for each segment, read where place reads it, is that list
 pub listed_whole : (place : ℕ → ℕ → Block) (xs ys : List Block) → length ys ≡ length (segments xs)

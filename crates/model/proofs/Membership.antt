@@ -1,33 +1,23 @@
 -- Try's two tests say what they ask (01, "Try"): the mask spells the word, the book accepts it.
 -- Assumes nothing.
-use Prim.Native.Nat.{ℕ, suc}
-use mathlib.Core.Path.{◌≡◌, ap}
-use mathlib.Core.Logic.{◌↔◌}
-use mathlib.Core.Bool.{Bool, ◌&&◌}
-use mathlib.Core.List.{List, [], ◌∷◌, ◌++◌}
-use native.Mathlib.Omega.{arith}
-use lib.Dec.{T, ltb, leb, eqb→eq, ltb→lt, lt→ltb, leb→le, le→leb}
-use lib.ListN.{length, take, drop, length-append, take-append-drop, drop_of_length-le}
+use Rattle.std.proofs.Common.{◌≡◌, ℕ, suc, Bool, ◌&&◌, T, ◌↔◌, List, [], ◌∷◌, ◌++◌, length, take, drop, ap, arith, eqb→eq, length-append, take-append-drop, drop_of_length-le}
 use lib.Seq.{take-append_seam, drop-append_seam}
 use Rattle.model.specs.declared.Block.{Block}
-use Rattle.model.specs.Set.{has, Member, some_below}
+use Rattle.model.specs.Set.{Member, some_below}
 use Rattle.model.specs.DashedString.{Within, nil, cons, Piece, Matches}
 use Rattle.model.specs.Automaton.{Dfa, Accepts, run}
 use Rattle.model.specs.Membership.{contains, within, piece, spells, accepts}
-use Rattle.model.proofs.Set.{T_and, member, some_below_lem}
+use Rattle.model.proofs.Set.{T_and, some_below_lem}
 use Rattle.model.proofs.Words.{matches_nil, matches_cons}
 
 -- the number is in the set
 pub contains_exact : (s i : ℕ) → T (contains s i) ↔ Member i s
 unfolding contains
-contains_exact s i = (
-  λ h. let (l, t) = (T_and (ltb i 64) (has s i)).0 h in member (ltb→lt i 64 l) t,
-  λ m. (T_and (ltb i 64) (has s i)).1 (lt→ltb i 64 m.small, m.there),
-)
+contains_exact = grind (arith, T_and)
 
 -- the first letter of a word within a set, and the rest
 within_cons : {S c : ℕ} {w : List ℕ} → Within S (c ∷ w) → Member c S × Within S w
-within_cons (cons m v) = (m, v)
+within_cons = grind arith
 
 -- each letter of the word is in the set
 within_exact : (S : ℕ) (w : List ℕ) → T (within S w) ↔ Within S w
@@ -41,21 +31,7 @@ within_exact S (c ∷ w) = (
 -- the block spells the word
 piece_exact : (x : Block) (p : List ℕ) → T (piece x p) ↔ Piece x p
 unfolding piece
-piece_exact x p = (
-  λ h.
-      let (b, v) = (T_and (enough && few) (within x.base p)).0 h in
-      let (l, u) = (T_and enough few).0 b in
-      record { within = (within_exact x.base p).0 v; enough = leb→le x.lower (length p) l; few = leb→le (length p) x.upper u },
-  λ a.
-      let b = (T_and enough few).1 (le→leb x.lower (length p) a.enough, le→leb (length p) x.upper a.few) in
-      (T_and (enough && few) (within x.base p)).1 (b, (within_exact x.base p).1 a.within),
-)
-  where
-    enough : Bool
-    enough = leb x.lower (length p)
-
-    few : Bool
-    few = leb (length p) x.upper
+piece_exact = grind (arith, T_and, within_exact)
 
 -- the mask spells the word
 pub spells_exact : (xs : List Block) (w : List ℕ) → T (spells xs w) ↔ Matches xs w

@@ -1,14 +1,8 @@
 -- The normal form spells what the mask spells, and it is reduced (01, "The passes").
-use Prim.Native.Nat.{ℕ, ◌+◌, ◌-◌, ◌≤◌, ◌<◌, min}
-use mathlib.Core.Bool.{Bool, true, false, cond, ◌&&◌, ◌||◌, or-true}
-use mathlib.Core.Path.{◌≡◌, refl}
+use Rattle.std.proofs.lemmas.Bool.{cases_Bool, cases_eq}
+use Rattle.std.proofs.lemmas.Grind.{common_steps}
+use Rattle.std.proofs.Common.{◌≡◌, ℕ, ◌+◌, ◌-◌, ◌<◌, ◌≤◌, min, T, ◌↔◌, List, [], ◌∷◌, ◌++◌, length, take, drop, refl, ⊎_elim, append_assoc, arith, length-append, length-drop, take-append-drop, drop_of_length-le, length-take, eq-eqb, ne_eqb}
 use mathlib.Core.Logic.Iff
-use mathlib.Core.Logic.{◌↔◌, ◌⊎◌, inl, inr, ⊎_elim, ⊎_map}
-use mathlib.Core.List.{List, [], ◌∷◌, ◌++◌, append_assoc}
-use native.Mathlib.Omega.{arith}
-use lib.Dec.{T, eqb, eqb→eq}
-use lib.ListN.{length, take, drop, length-append, length-take, length-drop, take-append-drop, drop_of_length-le}
-use borrow.Author.Tests.{eqb-true, eqb-false}
 use Rattle.model.specs.declared.Block.{Block}
 use Rattle.model.specs.DashedString.{block, Each, Bounded, Within, nil, Piece, Matches}
 use Rattle.model.specs.NormalForm.{idle, dropped, join, joined, normal, Apart, Reduced}
@@ -30,21 +24,16 @@ pub data Normalizes : List Block → List Block → Type 0 where
 join_normalizes : (x : Block) (ys : List Block) {xs : List Block} → ¬ T (idle x) → Normalizes xs ys → Normalizes (x ∷ xs) (join x ys)
 unfolding join
 join_normalizes x [] i n = keeps i tt n
-join_normalizes x (y ∷ ys) {xs} i n = go (eqb x.base y.base) refl
-  where
-    go : (b : Bool) → eqb x.base y.base ≡ b → Normalizes (x ∷ xs) (cond b (merged x y ∷ ys) (x ∷ y ∷ ys))
-    go true e = joins i (eqb-true _ _ e) n
-    go false e = keeps i (eqb-false _ _ e) n
+join_normalizes x (y ∷ ys) i n =
+    ⊎_elim (λ e. rw (eq-eqb x.base y.base e) (joins i e n)) (λ e. rw (ne_eqb x.base y.base e) (keeps i e n)) (cases_eq x.base y.base)
 
 -- the normal form is what becomes of a mask so: the theorems below and in Room go by the four cases
 pub normalizes : (xs : List Block) → Normalizes xs (normal xs)
 unfolding normal dropped joined
 normalizes [] = nothing
-normalizes (x ∷ xs) = go (idle x) refl (normalizes xs)
-  where
-    go : (b : Bool) → idle x ≡ b → Normalizes xs (normal xs) → Normalizes (x ∷ xs) (joined (cond b (dropped xs) (x ∷ dropped xs)))
-    go true e n = drops {x = x} (rw e tt) n
-    go false e n = join_normalizes x (normal xs) (λ i. rw e at i) n
+normalizes (x ∷ xs) =
+    ⊎_elim (λ e. rw e (drops {x = x} (rw e tt) (normalizes xs))) (λ e. rw e (join_normalizes x (normal xs) (λ i. rw e at i) (normalizes xs)))
+    (cases_Bool (idle x))
 
 -- what holds of each block of a mask, and of two blocks joined where it holds of both, holds of each block of the normal form
 pub each_normal : (P : Block → Type 0) → ((x y : Block) → x.base ≡ y.base → P x → P y → P (merged x y))
@@ -54,23 +43,13 @@ each_normal P k (drops i n) h = each_normal P k n h.1
 each_normal P k (keeps i a n) h = (h.0, each_normal P k n h.1)
 each_normal P k (joins {x} {y} i e n) h = let (b, bs) = each_normal P k n h.1 in (k x y e h.0 b, bs)
 
--- what the test for an idle block says
-idle_iff : (x : Block) → T (idle x) ↔ ((x.upper ≡ 0) ⊎ ((x.base ≡ 0) × (x.lower ≡ 0)))
-idle_iff x = (go (eqb x.upper 0) (eqb x.base 0) refl refl, ⊎_elim (λ u. rw u tt) (λ (s, l). rw (s, l, or-true) tt))
-  where
-    go : (a b : Bool) → eqb x.upper 0 ≡ a → eqb x.base 0 ≡ b → T (a || b && eqb x.lower 0)
-        → (x.upper ≡ 0) ⊎ ((x.base ≡ 0) × (x.lower ≡ 0))
-    go true b u s i = inl (eqb-true _ _ u)
-    go false true u s i = inr (eqb-true _ _ s, eqb→eq _ _ i)
-    go false false u s i = absurd i
-
 -- the upper bound of a block that is not idle is positive
 pub idle_positive : (x : Block) → ¬ T (idle x) → 0 < x.upper
-idle_positive x i = let h : ¬ (x.upper ≡ 0) = λ u. i ((idle_iff x).1 (inl u)) in omega arith
+idle_positive = grind (arith, common_steps)
 
 -- where two joined blocks are idle, the first is
 pub idle_merged : (x y : Block) → T (idle (merged x y)) → T (idle x)
-idle_merged x y i = (idle_iff x).1 (⊎_map (λ u. omega arith) (λ (s, l). (s, omega arith)) ((idle_iff (merged x y)).0 i))
+idle_merged = grind (arith, common_steps)
 
 -- a word with the letters and the length that a block asks for is a piece of it
 piece : {x : Block} {p : List ℕ} → Within x.base p → (x.lower ≤ length p) × (length p ≤ x.upper) → Piece x p
@@ -79,8 +58,8 @@ piece v (l, u) = record { within = v; enough = l; few = u }
 -- the empty word is the one piece of an idle block
 idle_piece : (x : Block) → T (idle x) → Bounded x → (p : List ℕ) → Piece x p ↔ (p ≡ [])
 idle_piece x i b p = (
-  λ a. ⊎_elim (λ u. drop_of_length-le p {i = 0} (omega arith)) (λ (s, l). within_zero (rw s at a.within)) ((idle_iff x).0 i),
-  λ e. rw e (piece nil (⊎_elim (λ u. omega arith) (λ l. omega arith) ((idle_iff x).0 i))),
+  λ a. grind (arith, common_steps, drop_of_length-le p {i = 0}, within_zero {p = p}),
+  λ e. rw e (piece nil (grind (arith, common_steps))),
 )
 
 -- a mask spells the same with an idle block in front

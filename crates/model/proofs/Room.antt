@@ -1,10 +1,6 @@
 -- The normal form of a mask with room, and the narrowed mask of one, fit a record (01, checks 4, 7, 8 and 9).
 -- Assumes nothing.
-use Prim.Native.Nat.{ℕ, zero, suc, ◌+◌, ◌-◌, ◌^◌, ◌≤◌}
-use mathlib.Core.Path.{◌≡◌, refl}
-use mathlib.Core.List.{List, [], ◌∷◌, ◌++◌, map}
-use native.Mathlib.Omega.{arith}
-use lib.ListN.{length, replicate}
+use Rattle.std.proofs.Common.{◌≡◌, ℕ, zero, suc, ◌+◌, ◌-◌, ◌^◌, ◌≤◌, List, [], ◌∷◌, ◌++◌, map, length, replicate, refl, arith}
 use Rattle.model.specs.declared.Block.{Block}
 use Rattle.model.specs.DashedString.{block, Each, Bounded}
 use Rattle.model.specs.Automaton.{Dfa}
@@ -20,28 +16,21 @@ use Rattle.model.proofs.NormalForm.{merged, Normalizes, nothing, drops, keeps, j
 formed_merged : (m : ℕ) (x y : Block) → x.base ≡ y.base → WellFormed m x → WellFormed m y → WellFormed m (merged x y)
 formed_merged m x y e a b = record { bounds = omega arith; bytes = a.bytes; letters = a.letters }
 
--- dropping does not raise the sum of the upper bounds, and joining keeps it
-uppers_normal : {xs ys : List Block} → Normalizes xs ys → uppers ys ≤ uppers xs
-uppers_normal nothing = omega arith
-uppers_normal (drops i n) = omega (arith, uppers_normal n)
-uppers_normal (keeps i a n) = omega (arith, uppers_normal n)
-uppers_normal (joins i e n) = omega (arith, uppers_normal n)
-
--- no step makes a block more
-length_normal : {xs ys : List Block} → Normalizes xs ys → length ys ≤ length xs
-length_normal nothing = omega arith
-length_normal (drops i n) = omega (arith, length_normal n)
-length_normal (keeps i a n) = omega (arith, length_normal n)
-length_normal (joins i e n) = omega (arith, length_normal n)
+-- dropping does not raise the sum of the upper bounds, and joining keeps it; and no step makes a block more
+less_normal : {xs ys : List Block} → Normalizes xs ys → (uppers ys ≤ uppers xs) × (length ys ≤ length xs)
+less_normal nothing = omega arith
+less_normal (drops i n) = omega (arith, less_normal n)
+less_normal (keeps i a n) = omega (arith, less_normal n)
+less_normal (joins i e n) = omega (arith, less_normal n)
 
 -- the normal form has no more blocks than the mask
 pub normal_shorter : (xs : List Block) → length (normal xs) ≤ length xs
-normal_shorter xs = length_normal (normalizes xs)
+normal_shorter xs = (less_normal (normalizes xs)).1
 
 -- the normal form has room where the mask has
 pub normal_room : (m : ℕ) (xs : List Block) → Room m xs → Room m (normal xs)
 normal_room m xs r =
-    record { each = each_normal (WellFormed m) (formed_merged m) (normalizes xs) r.each; sum = omega (arith, uppers_normal (normalizes xs)) }
+    record { each = each_normal (WellFormed m) (formed_merged m) (normalizes xs) r.each; sum = omega (arith, r.sum, less_normal (normalizes xs)) }
 
 -- a reduced mask has no more blocks than its upper bounds sum to: none of them is 0
 reduced_few : (xs : List Block) → Reduced xs → length xs ≤ uppers xs
@@ -50,7 +39,7 @@ reduced_few (x ∷ xs) (i, a, r) = omega (arith, idle_positive x i, reduced_few 
 
 -- the normal form has no more blocks than the upper bounds of the mask sum to
 pub normal_few : (xs : List Block) → length (normal xs) ≤ uppers xs
-normal_few xs = omega (arith, reduced_few (normal xs) (normal_reduced xs), uppers_normal (normalizes xs))
+normal_few xs = omega (arith, reduced_few (normal xs) (normal_reduced xs), less_normal (normalizes xs))
 
 -- the normal form of a mask with room fits a record
 pub normal_fits : (m : ℕ) (xs : List Block) → Room m xs → Fits m (normal xs)

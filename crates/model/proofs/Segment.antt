@@ -1,11 +1,7 @@
 -- One segment: the states behind it, the states kept before it, and what it becomes, by the pieces that it spells.
 -- Assumes nothing.
-use mathlib.Core.Path.{◌≡◌, refl}
-use mathlib.Core.Logic.{◌↔◌}
-use mathlib.Core.List.{List, [], ◌∷◌}
-use Prim.Native.Nat.{ℕ, zero, suc, ◌+◌, ◌^◌, ◌≤◌, ◌<◌, zero-le}
-use native.Mathlib.Omega.{arith}
-use lib.ListN.{length, get_or, drop_of_length-le}
+use Rattle.std.proofs.Common.{◌≡◌, ℕ, zero, suc, ◌+◌, ◌^◌, ◌<◌, ◌≤◌, ◌↔◌, List, [], ◌∷◌, length, get_or, refl, zero-le, arith, drop_of_length-le}
+use Rattle.std.proofs.lemmas.Grind.{common_steps}
 use Rattle.model.specs.declared.Block.{Block}
 use Rattle.model.specs.Set.{Member, both}
 use Rattle.model.specs.DashedString.{block, Bounded, Within, nil, cons, Piece}
@@ -22,12 +18,7 @@ as_block (optional S w) = block S 0 w
 
 -- a piece of a mandatory place is one letter
 pub one_letter : {S : ℕ} {p : List ℕ} → Piece (block S 1 1) p → (c : ℕ) × Member c S × (p ≡ c ∷ [])
-one_letter h = go h.within h.enough h.few
-  where
-    go : {S : ℕ} {p : List ℕ} → Within S p → 1 ≤ length p → length p ≤ 1 → (c : ℕ) × Member c S × (p ≡ c ∷ [])
-    go nil l f = absurd (omega arith)
-    go (cons {c} n nil) l f = (c, n, refl)
-    go (cons n (cons m h)) l f = absurd (omega arith)
+one_letter = grind (arith, common_steps)
 
 -- and one letter of S is a piece of it
 pub letter_piece : {S c : ℕ} → Member c S → Piece (block S 1 1) (c ∷ [])
@@ -46,19 +37,7 @@ pub record Narrows (x y : Block) : Type 0 where
 -- what a segment becomes narrows it
 pub pruned_narrows : (t : Table) (Q : ℕ) (s : Segment) (E : ℕ) → Narrows (as_block s) (pruned t Q s E)
 unfolding pruned
-pruned_narrows t Q (mandatory S) E =
-    record { within = λ c h. between_within t S Q E h; bytes = between_bytes t S Q E; lower = omega arith; upper = refl; bounds = omega arith }
-pruned_narrows t Q (optional S zero) E =
-    record { within = λ c h. absurd (in_none h); bytes = omega arith; lower = omega arith; upper = refl; bounds = omega arith }
-pruned_narrows t Q (optional S (suc v)) E =
-    let R = at_most t S Q (suc v) in
-    record {
-      within = λ c h. between_within t S R (both R (to_end t S R E v)) h;
-      bytes = between_bytes t S R (both R (to_end t S R E v));
-      lower = zero-le;
-      upper = refl;
-      bounds = fewest_end t S R E Q (suc v);
-    }
+pruned_narrows = grind (arith, between_within, between_bytes, fewest_end, in_none)
 
 -- what narrows a block spells nothing that the block does not
 pub narrows_adds : {x y : Block} {p : List ℕ} → Narrows x y → Piece y p → Piece x p
@@ -95,10 +74,7 @@ module _ (t : Table) (fits : t.states < 64) where
   in_backward Q (optional S w) E =
       let R = at_most t S Q w in
       let M = to_end t S R E w in (
-        λ h.
-            let (m, k) = (in_both Q M).0 h in
-            let (p, n, l, _, e) = (in_to_end t fits S R E w).0 k in
-            (m, p, record { within = n; enough = zero-le; few = l }, e),
+        λ h. let (m, k) = (in_both Q M).0 h in let (p, n, l, _, e) = (in_to_end t fits S R E w).0 k in (m, p, grind arith, e),
         λ (m, p, g, e). (in_both Q M).1 (m, (in_to_end t fits S R E w).1 (led t fits S Q E w 0 w m g.within e (omega (arith, g.few)) g.few)),
       )
 
@@ -112,15 +88,13 @@ module _ (t : Table) (fits : t.states < 64) where
       let q-in : Member q R = rounds_mono (after t S) Q j (suc v) (omega arith) m in
       let next-in : Member (next t q c) R = rounds_mono (after t S) Q (suc j) (suc v) (omega arith) m' in
       let level = (in_to_end t fits S R E v).1 (led t fits S Q E (suc v) (suc j) v m' h e (omega arith) (omega arith)) in
-      let near = (in_both R (to_end t S R E v)).1 (next-in, level) in
-      cons ((in_between t fits S R (both R (to_end t S R E v))).1 (n, q, q-in, near)) (within_between S Q E v (suc j) m' h e (omega arith))
+      cons (grind (arith, in_between, in_both)) (within_between S Q E v (suc j) m' h e (omega arith))
 
   -- a piece on a way from before the segment to what is kept behind it is spelled by what the segment becomes
   pub pruned_keeps : (Q : ℕ) (s : Segment) (E : ℕ) {q : ℕ} {p : List ℕ} → Member q Q → Piece (as_block s) p → Member (run t q p) E
       → Piece (pruned t Q s E) p
   unfolding pruned rounds
-  pruned_keeps Q (mandatory S) E {q} m g e =
-      let (c, n, d) = one_letter g in rw d (letter_piece ((in_between t fits S Q E).1 (n, q, m, rw d at e)))
+  pruned_keeps Q (mandatory S) E m g e = grind (arith, one_letter, letter_piece, in_between)
   pruned_keeps Q (optional S zero) E {p = p} m g e =
       record { within = rw (drop_of_length-le p {i = 0} g.few) nil; enough = zero-le; few = g.few }
   pruned_keeps Q (optional S (suc v)) E {q} {p} m g e =

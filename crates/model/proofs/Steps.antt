@@ -1,21 +1,13 @@
 -- The steps of the passes by letters and words: one letter (after, before, between), exactly so many (Qj), at most so many
 -- (R, and b by its levels), and the least b.
 -- Assumes nothing.
-use mathlib.Core.Path.{◌≡◌, refl, sym}
-use mathlib.Core.Logic.{◌↔◌, ◌⊎◌, ⊎_elim, inl, inr}
-use mathlib.Core.Bool.{Bool, true, false}
-use mathlib.Core.List.{List, [], ◌∷◌, ◌++◌}
-use Prim.Native.Nat.{ℕ, zero, suc, ◌+◌, ◌^◌, ◌≤◌, ◌<◌, zero-le}
-use native.Mathlib.Nat.{eq-or-lt_of_le, add-zero, zero-add}
+use Rattle.std.proofs.Common.{◌≡◌, ℕ, zero, suc, ◌+◌, ◌^◌, ◌<◌, ◌≤◌, Bool, T, ◌⊎◌, ◌↔◌, List, [], ◌∷◌, ◌++◌, length, replicate, refl, inl, inr, ⊎_elim, zero-le, add-zero, zero-add, arith, length-append}
 use native.Mathlib.Decide.{le_ind}
-use native.Mathlib.Omega.{arith}
-use lib.Dec.{T}
-use lib.ListN.{length, replicate, length-append}
 use Rattle.model.specs.Set.{has, Member, some_member, either}
 use Rattle.model.specs.DashedString.{Within, nil, cons}
 use Rattle.model.specs.Automaton.{Table, next, run}
 use Rattle.model.specs.Passes.{mandatory, reach, after, before, between, rounds, at_most, to_end, first, fewest, forward, final}
-use Rattle.model.proofs.Set.{member, in_one, one_in, in_either, some_member_lem, in_members, in_union, in_related, members_bytes}
+use Rattle.model.proofs.Set.{in_one, one_in, in_either, some_member_lem, in_members, in_union, in_related, members_bytes}
 use Rattle.model.proofs.Automaton.{next_le}
 use Rattle.model.proofs.Words.{within_append, run_append}
 
@@ -25,34 +17,21 @@ use Rattle.model.proofs.Words.{within_append, run_append}
 first_end : (k i : ℕ) (p : ℕ → Bool) → first k i p ≤ i + k
 unfolding first
 first_end zero i p = omega arith
-first_end (suc k) i p = go (p i) (first_end k (suc i) p)
-  where
-    go : (v : Bool) → first k (suc i) p ≤ suc i + k → elim v [ true ↦ i | false ↦ first k (suc i) p ] ≤ i + suc k
-    go true h = omega arith
-    go false h = omega arith
+first_end (suc k) i p = grind (arith, first_end k (suc i) p)
 
 -- it is at most each one from i on that passes
 first_least : (k i d : ℕ) (p : ℕ → Bool) → i ≤ d → T (p d) → first k i p ≤ d
 unfolding first
 first_least zero i d p l h = l
-first_least (suc k) i d p l h = go (p i) refl (λ g. first_least k (suc i) d p g h)
-  where
-    go : (v : Bool) → p i ≡ v → (suc i ≤ d → first k (suc i) p ≤ d) → elim v [ true ↦ i | false ↦ first k (suc i) p ] ≤ d
-    go true e f = l
-    go false e f = f (⊎_elim (λ q. absurd (rw (← q, e) at h)) (λ g. g) (eq-or-lt_of_le l))
+first_least (suc k) i d p l h = grind (arith, first_least k (suc i) d p)
 
 -- where the end passes, it passes
 first_passes : (k i : ℕ) (p : ℕ → Bool) → T (p (i + k)) → T (p (first k i p))
 unfolding first
 first_passes zero i p h = rw add-zero at h
-first_passes (suc k) i p h = go (p i) refl (first_passes k (suc i) p (rw shift at h))
-  where
-    shift : i + suc k ≡ suc i + k
-    shift = omega arith
-
-    go : (v : Bool) → p i ≡ v → T (p (first k (suc i) p)) → T (p (elim v [ true ↦ i | false ↦ first k (suc i) p ]))
-    go true e f = rw e tt
-    go false e f = f
+first_passes (suc k) i p h =
+    let shift : i + suc k ≡ suc i + k = omega arith in
+    grind (arith, first_passes k (suc i) p (rw shift at h))
 
 -- ---- rounds
 
@@ -116,14 +95,7 @@ module _ (t : Table) (fits : t.states < 64) where
   -- a state is after one letter of S exactly when a move by one leads there from a state of Q
   pub in_after : (S Q : ℕ) {r : ℕ} → Member r (after t S Q) ↔ ((q : ℕ) × Member q Q × (c : ℕ) × Member c S × (next t q c ≡ r))
   unfolding after reach
-  in_after S Q = (
-    λ h.
-        let (q, m, g) = (in_union Q (reach t S)).0 h in
-        let (c, n, e) = (in_union S (λ c. 2 ^ next t q c)).0 g in
-        (q, m, c, n, sym (in_one e)),
-    λ (q, m, c, n, e).
-        (in_union Q (reach t S)).1 (q, m, (in_union S (λ c. 2 ^ next t q c)).1 (c, n, rw (← e) (one_in (next_small q c)))),
-  )
+  in_after = grind (arith, in_union, in_one, one_in, next_small)
 
   -- before E: a state of Q with a move by a letter of S into E
   pub in_before : (S Q E : ℕ) {q : ℕ} → Member q (before t S Q E) ↔ (Member q Q × (c : ℕ) × Member c S × Member (next t q c) E)
@@ -152,7 +124,7 @@ module _ (t : Table) (fits : t.states < 64) where
   exactly_out S Q zero m nil l = m
   exactly_out S Q zero m (cons n h) l = absurd (omega arith)
   exactly_out S Q (suc j) m nil l = absurd (omega arith)
-  exactly_out S Q (suc j) {q} m (cons {c} n h) l = exactly_out S (after t S Q) j ((in_after S Q).1 (q, m, c, n, refl)) h (omega arith)
+  exactly_out S Q (suc j) {q} m (cons {c} n h) l = grind (arith, in_after, exactly_out S (after t S Q) j)
 
   -- Qj, the set behind j places, has the states after exactly j letters
   pub in_exactly : (S Q j : ℕ) {r : ℕ} → Member r (final t Q (replicate j (mandatory S))) ↔ Exactly t S Q j r
@@ -173,15 +145,13 @@ module _ (t : Table) (fits : t.states < 64) where
   reached : (S Q k : ℕ) {r : ℕ} → Member r (at_most t S Q k) → Reached t S Q k r
   unfolding rounds
   reached S Q zero {r} h = (r, h, [], nil, zero-le, refl)
-  reached S Q (suc k) {r} h = go (λ q m. reached S Q k {r = q} m) ((in_rounds (after t S) Q k).0 h)
-    where
-      go : ((q : ℕ) → Member q (at_most t S Q k) → Reached t S Q k q)
-          → Member r (at_most t S Q k) ⊎ Member r (after t S (at_most t S Q k)) → Reached t S Q (suc k) r
-      go ih (inl a) = let (q, m, p, w, l, e) = ih r a in (q, m, p, w, omega arith, e)
-      go ih (inr a) =
-          let (s, m', c, n, d) = (in_after S (at_most t S Q k)).0 a in
-          let (q, m, p, w, l, e) = ih s m' in
-          (q, m, p ++ c ∷ [], within_append w (cons n nil), simp length-append (omega arith), rw (run_append t q p (c ∷ []), e) d)
+  reached S Q (suc k) {r} h =
+      ⊎_elim (λ a. let (q, m, p, w, l, e) = reached S Q k {r = r} a in (q, m, p, w, omega arith, e))
+      (λ a.
+      let (s, m', c, n, d) = (in_after S (at_most t S Q k)).0 a in
+      let (q, m, p, w, l, e) = reached S Q k {r = s} m' in
+      (q, m, p ++ c ∷ [], within_append w (cons n nil), simp length-append (omega arith), rw (run_append t q p (c ∷ []), e) d))
+      ((in_rounds (after t S) Q k).0 h)
 
   -- the states of R are those reached by at most k letters
   pub in_at_most : (S Q k : ℕ) {r : ℕ} → Member r (at_most t S Q k) ↔ Reached t S Q k r
@@ -191,7 +161,7 @@ module _ (t : Table) (fits : t.states < 64) where
   -- a word from a state of the j-th round stays in R
   stays : (S Q w j : ℕ) {q : ℕ} {p : List ℕ} → Member q (at_most t S Q j) → Within S p → j + length p ≤ w → Stays t (at_most t S Q w) q p
   stays S Q w j m nil l = tt
-  stays S Q w j m (cons n h) l = (rounds_mono (after t S) Q j w (omega arith) m, stays S Q w (suc j) (round S Q j m n) h (omega arith))
+  stays S Q w j {q} m (cons {c} n h) l = grind (arith, rounds_mono, round, stays S Q w (suc j) {q = next t q c} (round S Q j m n) h)
 
   -- ---- b by its levels: at most d letters
 
@@ -199,23 +169,20 @@ module _ (t : Table) (fits : t.states < 64) where
   leads_in : (S R E d : ℕ) {q : ℕ} → Member q (to_end t S R E d) → Leads t S R E d q
   unfolding rounds
   leads_in S R E zero h = ([], nil, zero-le, tt, h)
-  leads_in S R E (suc d) {q} h = go (λ r m. leads_in S R E d {q = r} m) ((in_rounds (before t S R) E d).0 h)
-    where
-      go : ((r : ℕ) → Member r (to_end t S R E d) → Leads t S R E d r)
-          → Member q (to_end t S R E d) ⊎ Member q (before t S R (to_end t S R E d)) → Leads t S R E (suc d) q
-      go ih (inl a) = let (p, w, l, s, e) = ih q a in (p, w, omega arith, s, e)
-      go ih (inr a) =
-          let (m, c, n, k) = (in_before S R (to_end t S R E d)).0 a in
-          let (p, w, l, s, e) = ih (next t q c) k in
-          (c ∷ p, cons n w, omega arith, (m, s), e)
+  leads_in S R E (suc d) {q} h =
+      ⊎_elim (λ a. let (p, w, l, s, e) = leads_in S R E d {q = q} a in (p, w, omega arith, s, e))
+      (λ a.
+      let (m, c, n, k) = (in_before S R (to_end t S R E d)).0 a in
+      let (p, w, l, s, e) = leads_in S R E d {q = next t q c} k in
+      (c ∷ p, cons n w, omega arith, (m, s), e))
+      ((in_rounds (before t S R) E d).0 h)
 
   -- and where they do, the state is of level d
   leads_out : (S R E d : ℕ) {q : ℕ} {p : List ℕ} → Within S p → length p ≤ d → Stays t R q p → Member (run t q p) E → Member q (to_end t S R E d)
   unfolding rounds
   leads_out S R E d nil l s e = rounds_mono (before t S R) E 0 d zero-le e
   leads_out S R E zero (cons n h) l s e = absurd (omega arith)
-  leads_out S R E (suc d) (cons {c} n h) l (m, s) e =
-      (in_rounds (before t S R) E d).1 (inr ((in_before S R (to_end t S R E d)).1 (m, c, n, leads_out S R E d h (omega arith) s e)))
+  leads_out S R E (suc d) {q} (cons {c} n h) l (m, s) e = grind (arith, in_rounds, in_before, leads_out S R E d {q = next t q c} h)
 
   -- level d of b has the states q with b(q) ≤ d
   pub in_to_end : (S R E d : ℕ) {q : ℕ} → Member q (to_end t S R E d) ↔ Leads t S R E d q
@@ -225,10 +192,7 @@ module _ (t : Table) (fits : t.states < 64) where
 
   -- a state of Q is of level d
   near : (S R E Q d : ℕ) → T (some_member Q (has (to_end t S R E d))) ↔ ((q : ℕ) × Member q Q × Leads t S R E d q)
-  near S R E Q d = (
-    λ h. let (q, m, k) = (some_member_lem Q (has (to_end t S R E d))).0 h in (q, m, (in_to_end S R E d).0 (member m.small k)),
-    λ (q, m, l). (some_member_lem Q (has (to_end t S R E d))).1 (q, m, ((in_to_end S R E d).1 l).there),
-  )
+  near = grind (arith, in_to_end, some_member_lem)
 
   -- it is at most b(q), for each q of Q
   pub fewest_least : (S R E Q w d : ℕ) {q : ℕ} → Member q Q → Leads t S R E d q → fewest t S R E Q w ≤ d

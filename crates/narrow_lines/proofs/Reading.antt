@@ -1,6 +1,6 @@
 -- What a read puts behind the bytes held.
 -- Assumes nothing.
-use Rattle.std.proofs.Common.{Bool, true, T, ◌≡◌, ℕ, ◌+◌, ◌≤◌, List, ◌++◌, length, take, false, Option, None, Some, is_some, IfSome, ◌∙◌, ap, length-take-le}
+use Rattle.std.proofs.Common.{Bool, true, T, ◌≡◌, ℕ, ◌+◌, ◌≤◌, ◌<◌, List, ◌++◌, length, take, false, Option, None, Some, is_some, IfSome, ◌∙◌, ap, arith, length-append, length-take-le}
 use Rattle.std.proofs.lemmas.List.{take-append-le}
 use lib.Seq.{take-append-add}
 
@@ -10,6 +10,10 @@ pub read_behind : (old part behind : List ℕ) (size n : ℕ) → size ≤ lengt
 read_behind old part behind size n h l =
     rw (length-take-le size old h) at (take-append-add (take size old) (part ++ behind) n)
     ∙ ap (λ l. take size old ++ l) (take-append-le n part behind l)
+
+-- more is held then
+pub grown : (old new more : List ℕ) → new ≡ old ++ more → 0 < length more → length old < length new
+grown old new more e h = omega (arith, ap length e, length-append old more)
 
 -- where more may come, the input has not ended
 pub more_to_come : (ended : Bool) → ended ≡ false → T ended → ⊥

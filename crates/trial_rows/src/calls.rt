@@ -15,21 +15,21 @@ pub fn narrow(
     mask: &[u8],
     answer: &mut [u8],
 ) -> io::Result<()> {
-    if answer.len() < room {
+    let Some(lent) = answer.get_mut(..room) else {
         return show::unreadable(out);
-    }
-    match operations::narrow(book, mask, &mut answer[..room]) {
-        Ok(narrowed) => narrowed(out, narrowed, answer),
+    };
+    match operations::narrow(book, mask, lent) {
+        Ok(got) => narrowed(out, got, answer),
         Err(refusal) => refused(out, refusal, answer),
     }
 }
 
 // Tidy, with the first `room` bytes of `answer` as the answer buffer.
 pub fn tidy(out: &mut impl Write, room: usize, mask: &[u8], answer: &mut [u8]) -> io::Result<()> {
-    if answer.len() < room {
+    let Some(lent) = answer.get_mut(..room) else {
         return show::unreadable(out);
-    }
-    match operations::tidy(mask, &mut answer[..room]) {
+    };
+    match operations::tidy(mask, lent) {
         Ok(bytes) => written(out, bytes as usize, answer),
         Err(refusal) => refused(out, refusal, answer),
     }
@@ -60,13 +60,13 @@ pub fn try_word(out: &mut impl Write, book: &[u8], mask: &[u8], code: &[u8]) -> 
 }
 
 // Writes narrow's answer: the verdict, and the blocks of what was written, if anything was.
-fn narrowed(out: &mut impl Write, narrowed: Narrowed, answer: &[u8]) -> io::Result<()> {
-    out.write_all(narrowed.verdict.word())?;
-    if narrowed.bytes == 0 {
+fn narrowed(out: &mut impl Write, got: Narrowed, answer: &[u8]) -> io::Result<()> {
+    out.write_all(got.verdict.word())?;
+    if got.bytes == 0 {
         return touched(out, answer);
     }
     out.write_all(b" ")?;
-    written(out, narrowed.bytes as usize, answer)
+    written(out, got.bytes as usize, answer)
 }
 
 // Writes the blocks of the record that the first `size` bytes are, and whether those behind them were touched.

@@ -31,16 +31,15 @@ fn answer(out: &mut impl Write, case: &[u8]) -> io::Result<()> {
     let mut first = [0u8; 70000];
     let mut second = [0u8; 70000];
     let mut third = [0u8; 2000];
-    let Some(first) = parts::read(case, 1, &mut first) else {
-        return show::unreadable(out);
-    };
-    let Some(second) = parts::read(case, 2, &mut second) else {
-        return show::unreadable(out);
-    };
-    let Some(third) = parts::read(case, 3, &mut third) else {
-        return show::unreadable(out);
-    };
-    run_command(out, case, first, second, third)
+    let parts = (
+        parts::read(case, 1, &mut first),
+        parts::read(case, 2, &mut second),
+        parts::read(case, 3, &mut third),
+    );
+    match parts {
+        (Some(first), Some(second), Some(third)) => run_command(out, case, first, second, third),
+        _ => show::unreadable(out),
+    }
 }
 
 // Answers a command on the parts of its case; one that it does not take is left alone.

@@ -6,7 +6,9 @@ use case_text::{hex, text};
 
 // What lies behind the first `i` such bytes, up to the next; nothing where there are fewer.
 fn part(case: &[u8], i: usize, byte: u8) -> &[u8] {
-    case.split(|other| *other == byte).nth(i).unwrap_or_default()
+    case.split(|other| *other == byte)
+        .nth(i)
+        .unwrap_or_default()
 }
 
 // Number `i` of the command, from 1: the word behind as many blanks. A word that is no number says 0.

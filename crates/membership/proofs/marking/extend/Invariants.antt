@@ -1,4 +1,4 @@
-use Rattle.std.proofs.Common.{ℕ, ◌-◌, ◌<◌, ◌↔◌, T}
+use Rattle.std.proofs.Common.{ℕ, ◌-◌, ◌<◌, T, ◌↔◌}
 use Rattle.membership.specs.Marks.{marked, outside, one_more, Last, Ends}
 use Rattle.membership.proofs.marking.extend.Given as goal
 

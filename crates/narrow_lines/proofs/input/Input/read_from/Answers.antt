@@ -1,6 +1,6 @@
 -- The bytes that a read brings stand behind those held.
-use Rattle.std.proofs.Common.{length, take, ap, arith, length-append, length-take-le}
-use Rattle.narrow_lines.proofs.Reading.{read_behind, more_to_come}
+use Rattle.std.proofs.Common.{take, arith, length-take-le}
+use Rattle.narrow_lines.proofs.Reading.{read_behind, grown, more_to_come}
 use Rattle.narrow_lines.proofs.input.Input.read_from.Goals as goal
 
 pub returns-in-Ok : goal.returns-in-Ok
@@ -11,6 +11,6 @@ returns-in-Ok g c =
     record {
       more = take n part;
       behind = behind;
-      grows = λ _. omega (arith, ap length behind, length-append (take c.args.self.now.size c.args.self.now.bytes) (take n part), length-take-le n part c.in-Ok.ensures.bound.0, c.in-Ok.more-test);
+      grows = λ _. grown _ _ _ behind (omega (arith, length-take-le n part c.in-Ok.ensures.bound.0, c.in-Ok.more-test));
       read = λ _. (c.in-Ok.ensures.bytes.0, λ t. absurd (more_to_come _ c.requires.0 t));
     }
