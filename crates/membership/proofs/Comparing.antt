@@ -1,9 +1,9 @@
 -- What the loop over the blocks of a mask keeps: the marks are those of the blocks so far.
 -- Assumes nothing.
 use Rattle.std.proofs.lemmas.Grind.{common_steps}
-use Rattle.std.proofs.Common.{◌≡◌, ℕ, zero, suc, ◌+◌, ◌<◌, ◌≤◌, Bool, true, false, T, ◌↔◌, List, [], length, get_or, take, set, replicate, refl, add-one, arith, take-suc}
+use Rattle.std.proofs.Common.{◌≡◌, ℕ, zero, suc, ◌<◌, ◌≤◌, Bool, true, false, T, ◌↔◌, List, [], ◌∷◌, ◌++◌, length, get_or, take, set, replicate, refl, arith}
 use Rattle.model.specs.declared.Block.{Block}
-use Rattle.model.specs.DashedString.{block, block_at, Matches}
+use Rattle.model.specs.DashedString.{Matches}
 use Rattle.model.specs.Membership.{spells}
 use Rattle.model.proofs.Words.{matches_nil}
 use Rattle.model.proofs.Membership.{spells_exact}
@@ -20,12 +20,11 @@ marks_start w n h = record { exact = at }
     at (suc j) l = grind (arith, common_steps, matches_nil (take (suc j) w))
 
 -- one block more
-pub marks_more : (xs : List Block) (w : List ℕ) (i : ℕ) (x : Block) (from to : List Bool) → x ≡ block_at xs i → i < length xs
-    → Marks (take i xs) w from → Extends x w from to → Marks (take (i + 1) xs) w to
-marks_more xs w i x from to d g m e =
-    rw (add-one i, take-suc xs i (block 0 0 0) g, ← d) (record { exact = λ j h. grind (arith, behind_at (take i xs) x w j h, m.exact, e.exact j h) })
+pub marks_more : (xs : List Block) (w : List ℕ) (x : Block) (from to : List Bool)
+    → Marks xs w from → Extends x w from to → Marks (xs ++ x ∷ []) w to
+marks_more xs w x from to m e =
+    record { exact = λ j h. grind (arith, behind_at xs x w j h, m.exact, e.exact j h) }
 
 -- all blocks: the last position tells
-pub marks_end : (xs : List Block) (w : List ℕ) (i : ℕ) (marks : List Bool) → length xs ≤ i → Marks (take i xs) w marks
-    → get_or marks (length w) false ≡ spells xs w
+pub marks_end : (xs : List Block) (w : List ℕ) (marks : List Bool) → Marks xs w marks → get_or marks (length w) false ≡ spells xs w
 marks_end = grind (arith, common_steps, spells_exact, same_test)

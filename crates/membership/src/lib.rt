@@ -24,9 +24,9 @@ pub fn some_strange(word: &[u8], letters: usize) -> bool
 
 // Whether the mask spells the word. No cut is tried after another: block by block, it marks the positions of the word up to
 // which the blocks so far spell it, in two arrays by turns.
-#[tactic(auto, using(crate::proofs::Comparing::marks_more, crate::proofs::Comparing::marks_end, records::proofs::Offsets::blocks_counted))]
-pub fn spells(mask: &[u8], blocks: usize, word: &[u8]) -> bool
-    requires blocks_value { (blocks ≡ count mask.now) × (6 + 12 * blocks ≤ length mask.now) }
+#[tactic(auto, using(crate::proofs::Comparing::marks_more, crate::proofs::Comparing::marks_end))]
+pub fn spells(mask: &[u8], word: &[u8]) -> bool
+    requires whole { 6 + 12 * count mask.now ≤ length mask.now }
     requires word_len_bound { (length word.now ≤ 1024) × Letters 64 word.now }
     ensures { result ≡ spec.spells (mask_of mask.now) word.now }
 {
@@ -34,8 +34,8 @@ pub fn spells(mask: &[u8], blocks: usize, word: &[u8]) -> bool
     let mut others = [false; 1025];
     let (mut from, mut to) = (&mut marks, &mut others);
     from[0] = true;
-    for i in 0..blocks {
-        extend(word, records::read_block(mask, i), from, to);
+    for block in records::blocks(mask) {
+        extend(word, block, from, to);
         std::mem::swap(&mut from, &mut to);
     }
     from[word.len()]

@@ -1,12 +1,13 @@
-use Rattle.std.proofs.Common.{◌≡◌, length, take}
+use Rattle.std.proofs.Common.{◌≡◌, ◌++◌, length}
 use Rattle.records.specs.Mask.{mask_of}
 use Rattle.membership.specs.Marks.{Marks}
 use Rattle.membership.proofs.spells.Given as goal
 
-abbrev pub invariant-loop-i : goal.invariant-loop-i
-invariant-loop-i l =
+abbrev pub invariant-loop-block : goal.invariant-loop-block
+invariant-loop-block l =
     record {
       from_size : length l.from ≡ 1025;
       to_size : length l.to ≡ 1025;
-      exact : Marks (take l.i (mask_of l.mask)) l.word l.from;
+      order : l.yielded ++ l.block-iterator ≡ mask_of l.mask;
+      exact : Marks l.yielded l.word l.from;
     }
