@@ -1,4 +1,5 @@
-// The passes of document 01 on a book and the blocks of a mask: forward through the blocks, and back. All room is lent.
+// The passes of document 01 on a book and the blocks of a mask: forward through the blocks, and back. All room that grows with
+// the blocks is lent.
 #![tactic(auto)]
 
 ghost use Rattle.std.specs.Prelude.{◌+◌, ◌*◌, ◌≤◌, ◌<◌, length};
