@@ -1,5 +1,5 @@
 // Bytes from hex text: tokens with blanks between, each two hex digits, or `*N` behind a byte that stands N times in all.
-ghost use Rattle.std.specs.Prelude.{◌≤◌, length, IfSome};
+ghost use Rattle.std.specs.Prelude.{◌≤◌, ◌<◌, length, IfSome};
 
 use crate::text;
 
@@ -8,40 +8,28 @@ pub fn read_bytes<'a>(tokens: &[u8], room: &'a mut [u8]) -> Option<&'a [u8]>
     ensures { IfSome result (λ bytes. length bytes.now ≤ length room.old) }
 {
     let mut count = 0;
-    for token in tokens.split(|byte| *byte == b' ') {
-        count = read_token(token, room, count)?;
+    let mut last = None;
+    for token in tokens
+        .split(|byte| *byte == b' ')
+        .filter(|token| !token.is_empty())
+    {
+        let (byte, times) = read_token(token, last)?;
+        let end = count + times as usize;
+        room.get_mut(count..end)?.fill(byte);
+        (count, last) = (end, Some(byte));
     }
     Some(&room[..count])
 }
 
-// Puts what one token says behind the first `count` bytes, and returns how many there are then; an empty one, between two
-// blanks, says nothing.
-fn read_token(token: &[u8], room: &mut [u8], count: usize) -> Option<usize>
-    requires { count ≤ length room.old }
-    ensures { IfSome result (λ more. more ≤ length room.old) }
+// The byte that a token says, and how many times; `last` is the byte before.
+fn read_token(token: &[u8], last: Option<u8>) -> Option<(u8, u32)>
+    ensures { IfSome result (λ said. said.1 < 100000) }
 {
     match token {
-        [] => Some(count),
-        [b'*', digits @ ..] => repeat_last(digits, room, count),
-        [high, low] => {
-            *room.get_mut(count)? = byte(*high, *low)?;
-            Some(count + 1)
-        }
+        [b'*', digits @ ..] => Some((last?, text::number(digits)?.checked_sub(1)?)),
+        [high, low] => Some((byte(*high, *low)?, 1)),
         _ => None,
     }
-}
-
-// Repeats the last of the first `count` bytes, so that it stands as often in all as the digits say, and returns how many
-// there are then.
-fn repeat_last(digits: &[u8], room: &mut [u8], count: usize) -> Option<usize>
-    requires { count ≤ length room.old }
-    ensures { IfSome result (λ more. more ≤ length room.old) }
-{
-    let last = *room[..count].last()?;
-    let more = text::number(digits)?.checked_sub(1)?;
-    let end = count + more as usize;
-    room.get_mut(count..end)?.fill(last);
-    Some(end)
 }
 
 // The byte that two hex digits say, of either case.

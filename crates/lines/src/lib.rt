@@ -12,6 +12,13 @@ pub use masks::run;
 pub use opening::open;
 pub use text::{Line, book_line};
 
+// A part of the input, and whether nothing comes behind it.
+#[derive(Clone, Copy)]
+pub struct Part<'a> {
+    pub bytes: &'a [u8],
+    pub ended: bool,
+}
+
 // Why the lines pause: the buffer is full, more input is wanted, or nothing more is to be printed.
 #[derive(Clone, Copy)]
 pub enum Pause {

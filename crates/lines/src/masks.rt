@@ -6,7 +6,7 @@ ghost use Rattle.lines.specs.Parts.{Advances, Steps};
 use crate::answer::mask_line;
 use crate::next::settled;
 use crate::text::{LONGEST, Line, refused_line};
-use crate::{Pause, Progress};
+use crate::{Part, Pause, Progress};
 use model::Refusal;
 use stream::Next;
 
@@ -23,23 +23,17 @@ pub(crate) enum Step {
 }
 
 // What the mask that stands next in `rest` adds. `answer` is room for narrow's answer.
-pub(crate) fn next_line(
-    book: &[u8],
-    rest: &[u8],
-    ended: bool,
-    number: u64,
-    answer: &mut [u8],
-) -> Step
+pub(crate) fn next_line(book: &[u8], rest: Part, number: u64, answer: &mut [u8]) -> Step
     requires { (number ≤ 4294967295) × (12294 ≤ length answer.old) }
-    ensures { Steps book.now rest.now ended number result }
+    ensures { Steps book.now rest.entry.bytes.now rest.entry.ended number result }
 {
-    let Some(next) = settled(rest, ended) else {
+    let Some(next) = settled(rest) else {
         return Step::Wanting;
     };
     match next {
         Next::Whole(taken) => Step::Passed {
             taken,
-            line: mask_line(book, &rest[..taken], number, answer),
+            line: mask_line(book, &rest.bytes[..taken], number, answer),
         },
         Next::Short | Next::Cut => Step::Last(refused_line(number, Refusal::Unframed)),
         Next::End => Step::Last(Line::new()),
@@ -58,18 +52,10 @@ fn put(line: &Line, out: &mut [u8], at: usize) -> usize
 }
 
 // Puts the lines of the masks of `input`, from number `first` on, at the start of `out`, as far as they go: up to a buffer
-// that has no room for another line, an input of which more is wanted, or the end. `ended` says that nothing comes behind
-// the input; `answer` is room for narrow's answer.
-pub fn run(
-    book: &[u8],
-    input: &[u8],
-    ended: bool,
-    first: u64,
-    answer: &mut [u8],
-    out: &mut [u8],
-) -> Progress
+// that has no room for another line, an input of which more is wanted, or the end. `answer` is room for narrow's answer.
+pub fn run(book: &[u8], input: Part, first: u64, answer: &mut [u8], out: &mut [u8]) -> Progress
     requires { 12294 ≤ length answer.old }
-    ensures { Advances book.now input.now ended first out.new result }
+    ensures { Advances book.now input.entry.bytes.now input.entry.ended first out.new result }
 {
     let mut progress = Progress {
         taken: 0,
@@ -82,8 +68,11 @@ pub fn run(
             progress.pause = Pause::Done;
             return progress;
         }
-        let rest = &input[progress.taken..];
-        match next_line(book, rest, ended, progress.number, answer) {
+        let rest = Part {
+            bytes: &input.bytes[progress.taken..],
+            ..input
+        };
+        match next_line(book, rest, progress.number, answer) {
             Step::Passed { taken, line } => {
                 progress.taken += taken;
                 progress.size = put(&line, out, progress.size);

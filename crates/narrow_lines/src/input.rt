@@ -1,6 +1,7 @@
 // The input of a program: what is read and not yet taken, and how it ended.
 ghost use Rattle.std.specs.Prelude.{◌≡◌, ◌≤◌, ◌<◌, ◌↔◌, [], false, length, drop, IsOk};
 
+use lines::Part;
 use std::io;
 use std::io::Read;
 
@@ -30,18 +31,15 @@ impl Input {
         }
     }
 
-    // The bytes held.
-    pub(crate) fn held(&self) -> &[u8]
-        ensures { result.now ≡ held self.now }
+    // The bytes held, and whether nothing comes behind them.
+    pub(crate) fn part(&self) -> Part<'_>
+        ensures bytes { result.bytes.now ≡ held self.now }
+        ensures ended { result.ended ≡ ended self.now }
     {
-        &self.bytes[..self.size]
-    }
-
-    // Whether nothing comes behind them.
-    pub(crate) fn ended(&self) -> bool
-        ensures { result ≡ ended self.now }
-    {
-        self.end.is_some()
+        Part {
+            bytes: &self.bytes[..self.size],
+            ended: self.end.is_some(),
+        }
     }
 
     // Takes the first bytes held.

@@ -20,7 +20,7 @@ fn begin<R: Read>(reader: &mut R, input: &mut Input) -> Result<usize, Refusal>
     ensures { Begins input.new result (R.remaining reader.old) (R.remaining reader.new) }
 {
     loop {
-        if let Some(size) = lines::open(input.held(), input.ended())? {
+        if let Some(size) = lines::open(input.part())? {
             return Ok(size);
         }
         input.read_from(reader);
@@ -49,14 +49,7 @@ fn print_masks<R: Read, W: Write>(
             size,
             number: next,
             pause,
-        } = lines::run(
-            book,
-            input.held(),
-            input.ended(),
-            number,
-            &mut answer,
-            &mut out,
-        );
+        } = lines::run(book, input.part(), number, &mut answer, &mut out);
         writer.write_all(&out[..size])?;
         input.take(taken);
         number = next;
@@ -77,7 +70,7 @@ fn print_lines<R: Read, W: Write>(reader: &mut R, writer: &mut W) -> io::Result<
     match begin(reader, &mut input) {
         Ok(size) => {
             let mut book = [0u8; 4047];
-            book[..size].copy_from_slice(&input.held()[..size]);
+            book[..size].copy_from_slice(&input.part().bytes[..size]);
             input.take(size);
             print_masks(reader, writer, &book[..size], &mut input)?;
         }

@@ -2,19 +2,18 @@
 -- Assumes nothing.
 use Prim.Native.Nat.{ℕ, ◌≤◌, ◌<◌}
 use mathlib.Core.Path.{◌≡◌, refl, sym, ◌∙◌}
-use mathlib.Core.Logic.{◌⊎◌, inl, inr, ⊎_elim}
+use mathlib.Core.Logic.{◌⊎◌, inl, inr}
 use mathlib.Core.Bool.{Bool, true, false, cond}
 use mathlib.Core.List.{List, [], ◌∷◌, ◌++◌}
 use native.Mathlib.Omega.{arith}
 use borrow.Author.Tests.{ltb-true, ltb-false, eqb-true, lt-ltb, le-ltb, ne_eqb}
 use lib.Dec.{ltb, eqb}
 use lib.ListN.{length, length-append}
-use Rattle.records.specs.Bytes.{Bytes, number_at}
+use Rattle.records.specs.Bytes.{number_at}
 use Rattle.records.specs.Check.{length_field}
-use Rattle.records.proofs.Numbers.{number_lt}
 use Rattle.stream.specs.declared.Next.{Next}
 use Rattle.stream.specs.declared.Next.TheVariants.{Whole, Short, Cut, End}
-use Rattle.stream.specs.Stream.{next, Unsettled}
+use Rattle.stream.specs.Stream.{next}
 
 -- the answer by each of the tests in turn
 abbrev by : Bool → Bool → Bool → Bool → ℕ → Next
@@ -61,13 +60,6 @@ field_behind (a ∷ b ∷ bs) rest h = refl
 module _ (bs : List ℕ) where
   pub tell : (x : Next) → x ≡ next bs → Tells bs x
   tell x e = rw (sym e) at (told bs)
-
-  -- more bytes can change these two, and there are fewer than the longest record has
-  pub cut_open : Bytes bs → Cut ≡ next bs → Unsettled (next bs) × (length bs < 65535)
-  cut_open h e = (rw (← e) tt, ⊎_elim (λ l. omega arith) (λ l. omega (arith, number_lt 2 bs 0 h)) (tell Cut e))
-
-  pub end_open : End ≡ next bs → Unsettled (next bs) × (length bs < 65535)
-  end_open e = (rw (← e) tt, omega (arith, tell End e))
 
   -- what comes later does not change which record is next, nor that its length field is too small
   module _ (rest : List ℕ) where

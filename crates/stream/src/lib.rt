@@ -1,8 +1,8 @@
 // A stream of records, each opened by its length, as document 01's line program reads it.
 #![tactic(auto)]
 
-ghost use Rattle.std.specs.Prelude.{◌≡◌, ◌-◌, ◌≤◌, length, take, drop};
-ghost use Rattle.stream.specs.Stream.{next};
+ghost use Rattle.std.specs.Prelude.{◌≡◌, ◌-◌, ◌<◌, ◌≤◌, length, take, drop};
+ghost use Rattle.stream.specs.Stream.{next, Unsettled};
 
 // What stands next in a stream: a record of so many bytes, a length field under 4, a record that is cut off, or nothing.
 #[derive(Clone, Copy)]
@@ -16,7 +16,8 @@ pub enum Next {
 // What stands next in a stream of just these bytes.
 #[tactic(auto, unfolding(crate::specs::Stream::next))]
 pub fn next_record(bytes: &[u8]) -> Next
-    ensures { result ≡ next bytes.now }
+    ensures stands { result ≡ next bytes.now }
+    ensures few { Unsettled result → length bytes.now < 65535 }
 {
     match bytes {
         [] => Next::End,

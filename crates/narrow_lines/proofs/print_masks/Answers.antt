@@ -10,12 +10,12 @@ use Rattle.narrow_lines.proofs.print_masks.Goals.{in-Full, in-More}
 pub returns-in-Done-clause-prints : goal.returns-in-Done-clause-prints
 returns-in-Done-clause-prints g c sound ends =
     let going = c.loop.invariant.going (rw c.take.ensures.end at sound) ends in
-    let step = rw (c.held.ensures, c.ended.ensures) at c.run-taken.ensures in
+    let step = rw (c.part.ensures.bytes, c.part.ensures.ended) at c.run-taken.ensures in
     prints _ 1 (held c.args.input.now) _ _ _ (λ xs is. last _ _ _ _ _ _ _ _ _ _ _ _ _ going step c.in_ok-write_all.ensures.bytes xs is c.in-Done.is)
 
 pub loop-preserved : goal.loop-preserved
 loop-preserved g c =
-    let step = rw (c.held.ensures, c.ended.ensures) at c.run-taken.ensures in
+    let step = rw (c.part.ensures.bytes, c.part.ensures.ended) at c.run-taken.ensures in
     elim c.match-pause.branch [
       | in-Full w ↦
           let same : c.match-pause.input.end ≡ c.loop.input.end = ap (λ (i : Input). i.end) w.input-is ∙ c.take.ensures.end in

@@ -6,7 +6,7 @@ use Rattle.lines.proofs.masks.run.Given as goal
 
 abbrev pub invariant-loop-out : goal.invariant-loop-out
 invariant-loop-out l = record {
-  running : Running l.book l.input l.ended l.first l.out l.progress.taken l.progress.size l.progress.number;
+  running : Running l.book l.input.bytes.now l.input.ended l.first l.out l.progress.taken l.progress.size l.progress.number;
   full : l.progress.pause ≡ Full;
 }
 
