@@ -1,4 +1,5 @@
 // The commands on a kind 2 record (a mask).
+ghost use Rattle.records.specs.WellFormed.{MaskRecord};
 ghost use Rattle.record_cases.specs.Holds.{Holds};
 
 use case_text::buffer::untouched;
@@ -15,7 +16,7 @@ pub fn mask(out: &mut impl Write, bytes: &[u8]) -> io::Result<()> {
         Ok(mask) => {
             write!(out, "mask {} {}", mask.blocks, mask.uppers)?;
             if mask.blocks <= 8 {
-                blocks(out, bytes, mask.blocks)?;
+                blocks(out, bytes)?;
             }
             let word = if comes_back(bytes, mask.blocks) {
                 "same"
@@ -42,11 +43,11 @@ pub fn letters(out: &mut impl Write, bytes: &[u8]) -> io::Result<()> {
 }
 
 // Writes each block.
-fn blocks(out: &mut impl Write, bytes: &[u8], blocks: usize) -> io::Result<()>
-    requires { Holds bytes.now blocks }
+fn blocks(out: &mut impl Write, bytes: &[u8]) -> io::Result<()>
+    requires { MaskRecord bytes.now }
 {
-    for i in 0..blocks {
-        block(out, records::read_block(bytes, i))?;
+    for item in records::blocks(bytes) {
+        block(out, item)?;
     }
     Ok(())
 }
@@ -60,12 +61,11 @@ fn block(out: &mut impl Write, block: Block) -> io::Result<()> {
 fn comes_back(bytes: &[u8], blocks: usize) -> bool
     requires { Holds bytes.now blocks }
 {
-    let mut bases = [0u64; 1024];
-    let mut lowers = [0u16; 1024];
-    let mut uppers = [0u16; 1024];
-    records::read_blocks(bytes, blocks, &mut bases, &mut lowers, &mut uppers);
+    let mut room = [Block::EMPTY; 1024];
+    let blocks = &mut room[..blocks];
+    records::read_blocks(bytes, blocks);
     let mut out = [0xEEu8; 12300];
-    let size = records::write_mask(&bases, &lowers, &uppers, blocks, &mut out);
+    let size = records::write_mask(blocks, &mut out);
     let (record, behind) = out.split_at(size);
     bytes == record && untouched(behind)
 }
