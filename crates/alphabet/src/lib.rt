@@ -8,11 +8,15 @@ ghost use Rattle.alphabet.specs.Alphabet.{sign_of, letter_of};
 const SIGNS: [u8; 64] = *b"+-0123456789ABCDEFGHIJKLMNOPQRSTUVWXYZabcdefghijklmnopqrstuvwxyz";
 
 // The sign of a letter; 0, which is no sign, for a number that is no letter.
-#[tactic(auto, using(crate::proofs::Table::sign_at))]
+#[tactic(auto, using(crate::proofs::Table::sign_at, crate::proofs::Undo::sign_past))]
 pub fn sign_of(letter: u8) -> u8
     ensures { result ≡ sign_of letter }
 {
-    SIGNS.get(letter as usize).copied().unwrap_or(0)
+    if letter < 64 {
+        SIGNS[letter as usize]
+    } else {
+        0
+    }
 }
 
 // The letter whose sign the byte is, by the byte's range; none for a byte that is no sign.
