@@ -23,7 +23,7 @@ fn main(rt: HostRuntime) -> io::Result<()> {
     let mut text = [0u8; 65536];
     let input = input::read_full(&mut rt.stdin(), &mut text);
     let lines = input.split(|byte| *byte == b'\n');
-    case::run_lines(&mut rt.stdout(), lines, |out, case| answer(out, case))
+    case::run_lines(&mut rt.stdout(), lines, answer)
 }
 
 // Answers the case whose text behind the name is lent, with room for its parts.
