@@ -1,6 +1,6 @@
 -- The numbers of the entries of the narrowed list.
 -- Assumes nothing.
-use Prim.Native.Nat.{ℕ, zero, suc, ◌+◌, ◌*◌, ◌≤◌, ◌<◌}
+use Prim.Native.Nat.{ℕ, zero, suc, ◌+◌, ◌-◌, ◌*◌, ◌≤◌, ◌<◌}
 use mathlib.Core.Path.{◌≡◌, refl}
 use mathlib.Core.List.{List, [], ◌∷◌}
 use native.Mathlib.Omega.{arith}
@@ -56,8 +56,17 @@ module _ (ms : List ℕ) (none : mask_refusal ms ≡ accepted) where
         let inside = rw (← begin, ← is) at (begins_within (mask_of ms) i (omega (arith, blocks_counted ms))) in
         omega (arith, inside, blocks_counted ms, sum_uppers (mask_of ms) r.bounds, r.few, r.sum)
 
+    -- the optional part is behind its places
+    pub optional_entry : (j : ℕ) → j ≡ 0 → first + x.lower ≡ entry_of (mask_of ms) i j
+    optional_entry j z = rw (z, begin, is)
+
     -- and the next block's begin behind them
     pub begins_next : first + (x.lower + 1) ≡ begins (mask_of ms) (i + 1)
     begins_next =
         let next : i + 1 ≡ suc i = omega arith in
         rw (next, begin, is) (omega (arith, begins_more (mask_of ms) i (omega (arith, blocks_counted ms))))
+
+-- the entry of a place
+pub mandatory_entry : (xs : List Block) (i first j : ℕ) → first ≡ begins xs i → ¬ (j ≡ 0) → first + (j - 1) ≡ entry_of xs i j
+mandatory_entry xs i first zero e n = absurd (n refl)
+mandatory_entry xs i first (suc j) e n = rw e (omega arith)

@@ -40,12 +40,29 @@ use Rattle.records.proofs.RoundTrip.{length_mask, reads_back}
 use Rattle.records.proofs.WellFormed.{checked, Wide}
 use Rattle.operations.specs.declared.Narrowed.{Narrowed}
 use Rattle.operations.specs.declared.pair.Pair.{Pair}
-use Rattle.operations.specs.Buffer.{room_refusal}
+use Rattle.operations.specs.Buffer.{room_refusal, Puts}
 use Rattle.operations.specs.Pair.{Given, from_record, given_refusal, pair_refusal, Ready}
 use Rattle.operations.specs.Passes.{Found}
 use Rattle.operations.specs.Narrow.{written, narrow_record, narrow_refusal, narrowed, narrow_buffer, narrow_numbers, Narrows, Answers}
+use Rattle.operations.proofs.Order.{same_refusal}
 use Rattle.operations.proofs.Pairs.{given_checks, pair_room}
 use Rattle.operations.proofs.Passing.{ready_fits, found_legal}
+
+-- ---- a verdict answered with its record, or 10
+
+-- the normal form zs, made as ys, was put into a buffer
+module _ (ys zs : List Block) (made : ys ≡ zs) (old new : List ℕ) (got : Result ℕ Refusal) (put : Puts (mask_bytes ys) old new got) where
+  -- which is shorter
+  pub conclude_short : (r : Refusal) → got ≡ Err r → (v : Verdict) → Answers v (mask_bytes zs) old new (Err r)
+  conclude_short r is v =
+      rw (← made) (record { answer = same_refusal (room_refusal (mask_bytes ys) (length old)) _ _ r (sym is ∙ put.answer); buffer = put.buffer })
+
+  -- or has room
+  pub conclude_put : (n : ℕ) → got ≡ Ok n → (illegal singles : Bool) (v : Verdict) → singles ≡ every single ys → v ≡ say true illegal singles
+      → Answers (say true illegal (every single zs)) (mask_bytes zs) old new (Ok (record { verdict = v; bytes = n }))
+  conclude_put n is illegal singles v t e =
+      let (passes, size) = unless_ok (room_refusal (mask_bytes ys) (length old)) _ n (sym put.answer ∙ is) in
+      rw (← made, ← t, ← e) (record { answer = rw (passes, size); buffer = put.buffer })
 
 -- ---- what is written, read back
 

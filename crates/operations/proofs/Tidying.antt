@@ -36,6 +36,10 @@ mask_blocks ms x bytes h =
     let (none, head) = mask_accepted ms x h in
     (mask_holds ms x h, (rw (head, blocks_counted ms) (mask_record ms none).few, (record_fits_64 ms bytes none).room))
 
+-- a copy of the blocks has room where they have
+pub copied_room : (xs ys : List Block) → xs ≡ ys → Room 64 ys → Room 64 xs
+copied_room xs ys e r = rw e r
+
 -- the normal form of a copy of the blocks is put: tidy's record is
 pub put_tidied : (ms old new : List ℕ) (a : Result ℕ Refusal) (xs ys : List Block) → xs ≡ mask_of ms → ys ≡ normal xs → Puts (mask_bytes ys) old new a
     → Puts (tidy_record ms) old new a
