@@ -1,25 +1,28 @@
 -- What the loop back through the blocks keeps from block to block, and one block of it.
 -- Assumes nothing.
-use Prim.Native.Nat.{ℕ, suc, ◌+◌, ◌-◌, ◌^◌, ◌≤◌, ◌<◌}
+use Prim.Native.Nat.{ℕ, zero, suc, ◌+◌, ◌-◌, ◌^◌, ◌≤◌, ◌<◌}
 use mathlib.Core.Path.{◌≡◌, refl, ap, ap₂, sym, ◌∙◌}
-use mathlib.Core.List.{List, [], ◌∷◌, ◌++◌}
+use mathlib.Core.List.{List, [], ◌∷◌, ◌++◌, append_assoc, append-nil}
 use native.Mathlib.Omega.{arith}
+use borrow.Rule.Slice.PartMut.{put_mid}
 use lib.Bits.{and_lt}
-use lib.ListN.{length, get_or, take, drop, set, replicate, drop_of_length-le}
+use lib.ListN.{length, get_or, set, take, drop, replicate}
+use lib.Seq.{take-suc, take-take, drop-drop, get_or-take}
+use Rattle.std.proofs.lemmas.List.{drop_all, take_all, drop_at, drop-set, length-take}
+use Rattle.std.proofs.lemmas.Slice.{take-put_mid_below}
 use Rattle.model.specs.declared.Block.{Block}
-use Rattle.model.specs.DashedString.{block_at}
+use Rattle.model.specs.DashedString.{block, block_at, Each, Bounded}
 use Rattle.model.specs.Set.{both}
 use Rattle.model.specs.Size.{WellFormed, Room, lower_sum}
 use Rattle.model.specs.Automaton.{Table}
 use Rattle.model.specs.Passes.{mandatory, optional, segments_of, segments, at_most, backward, pruned, final}
 use Rattle.model.proofs.Set.{in_both}
-use Rattle.propagator.specs.Entries.{numbered, blocks_of, blocks_between, Enough}
-use Rattle.records.proofs.Stores.{length_values}
+use Rattle.records.proofs.Checks.{each_map}
 use Rattle.bitset.proofs.Laws.{same_members}
 use Rattle.propagator.specs.Moves.{exactly}
-use Rattle.propagator.specs.Rows.{kept_to, entries_to, entering, Inside, Places, set_before, Stored, Writes}
-use Rattle.propagator.proofs.Rows.{sum_next, sum_mono, sum_all, block_final, entering_first, entering_next, set_before_is, kept_inside, block_kept, block_entries, kept_next, entries_next}
-use Rattle.propagator.proofs.Slices.{entry_is, entry_formed, between_first, between_none, between_append, between_same, writes_behind}
+use Rattle.propagator.specs.Rows.{kept_to, entries_to, Inside, places_of, sets_of, stored_by, stored}
+use Rattle.propagator.proofs.Rows.{each_get, sum_snoc, block_final, final_snoc, kept_inside, block_kept, block_entries, entries_snoc}
+use Rattle.propagator.proofs.Stored.{split_fits, split_front, split_own, split_first, sets_most, last_by, end_by, length_by, front_by}
 
 -- a set within another is what is in both
 pub inside_both : (a b : ℕ) → a < 2 ^ 64 → b < 2 ^ 64 → Inside b a → both a b ≡ b
@@ -27,146 +30,175 @@ inside_both a b h l f = same_members (both a b) b (and_lt 64 a b h l) l (λ q. (
 
 -- ---- one block
 
-module _ (t : Table) (x : Block) (Q : ℕ) (sets : List ℕ) (at : ℕ) (stored : Places t x.base Q x.lower sets at) where
-  -- the set before the optional part is Ql
-  from_is : (from : ℕ) → from ≡ set_before Q sets at x.lower → from ≡ exactly t x.base Q x.lower
-  from_is from e = e ∙ set_before_is t x.base Q x.lower sets at stored x.lower (omega arith)
+-- its sets are row, from is its Ql and within its R
+module _ (t : Table) (x : Block) (Q : ℕ) (row : List ℕ) (h : Bounded x) (stored : row ≡ stored_by t Q x) where
+  -- there are l sets
+  pub block_long : x.lower ≤ length row
+  block_long = omega (arith, ap length stored, length_by t Q x h, sets_most t Q x h)
 
-  -- a block's R, from its Ql
-  pub within_is : (from within : ℕ) → from ≡ set_before Q sets at x.lower → within ≡ final t Q (segments_of x)
-      → within ≡ at_most t x.base from (x.upper - x.lower)
-  within_is from within e f = rw (f, from_is from e, block_final t x Q)
+  -- those of its places
+  pub block_front : (Q' : ℕ) (front : List ℕ) (n : ℕ) → Q' ≡ Q → front ≡ take x.lower row → n ≡ x.lower → front ≡ places_of t x.base Q' n
+  block_front Q' front n e f g = rw (e, g) (f ∙ ap (take x.lower) stored ∙ front_by t Q x h)
 
-  module _ (E from : ℕ) (e : from ≡ set_before Q sets at x.lower) (y : Block) (M : ℕ)
-      (made : y ≡ pruned t from (optional x.base (x.upper - x.lower)) E) (kept : M ≡ backward t from (optional x.base (x.upper - x.lower)) E) where
-    -- the states kept before it
-    pub block_returned : (r : ℕ) → r ≡ kept_to t M Q (replicate x.lower (mandatory x.base)) → r ≡ kept_to t E Q (segments_of x)
-    block_returned r f = rw (f, kept, from_is from e, block_kept t E Q x)
+  module _ (E from within : ℕ) (e : from ≡ get_or (Q ∷ row) x.lower 0) (f : within ≡ get_or (Q ∷ row) (length row) 0) where
+    from_is : from ≡ exactly t x.base Q x.lower
+    from_is = e ∙ ap (λ r. get_or (Q ∷ r) x.lower 0) stored ∙ last_by t Q x h
 
-    -- its entries: the optional part's was stored, then those of the places
-    pub block_written : (a b c a₁ b₁ c₁ a₂ b₂ c₂ : List ℕ) (first : ℕ) → Enough a b c (first + x.lower + 1)
-        → a₁ ≡ set a (first + x.lower) y.base → b₁ ≡ set b (first + x.lower) y.lower → c₁ ≡ set c (first + x.lower) y.upper
-        → Writes a₁ b₁ c₁ first (first + x.lower) (entries_to t M Q (replicate x.lower (mandatory x.base))) a₂ b₂ c₂
-        → Writes a b c first (first + x.lower + 1) (entries_to t E Q (segments_of x)) a₂ b₂ c₂
-    block_written a b c a₁ b₁ c₁ a₂ b₂ c₂ first enough p q r w =
-        let entries : entries_to t E Q (segments_of x) ≡ entries_to t M Q (replicate x.lower (mandatory x.base)) ++ y ∷ []
-        = rw (made, kept, from_is from e, block_entries t E Q x) in
-        rw entries (writes_behind a b c a₁ b₁ c₁ a₂ b₂ c₂ first (first + x.lower) (entries_to t M Q (replicate x.lower (mandatory x.base))) y
-        (omega arith) enough p q r w)
+    within_is : within ≡ final t Q (segments_of x)
+    within_is = f ∙ ap (λ r. get_or (Q ∷ r) (length r) 0) stored ∙ ap (λ n. get_or (Q ∷ stored_by t Q x) n 0) (length_by t Q x h) ∙ end_by t Q x h
+
+    -- what the optional part asks
+    pub block_within : within < 2 ^ 64 → E < 2 ^ 64 → Inside E (final t Q (segments_of x))
+        → (within ≡ at_most t x.base from (x.upper - x.lower)) × (both within E ≡ E)
+    block_within w l i = (
+      within_is ∙ block_final t x Q ∙ ap (λ q. at_most t x.base q (x.upper - x.lower)) (sym from_is),
+      inside_both within E w l (λ q m. rw within_is (i q m)),
+    )
+
+    -- y is its entry, and M the states kept before it; Q' is Q, and n places stand before it
+    module _ (y : Block) (M : ℕ) (made : y ≡ pruned t from (optional x.base (x.upper - x.lower)) E)
+        (kept : M ≡ backward t from (optional x.base (x.upper - x.lower)) E) (Q' n : ℕ) (first : Q' ≡ Q) (size : n ≡ x.lower) where
+      -- the states kept before the block
+      pub block_returned : (r : ℕ) → r ≡ kept_to t M Q' (replicate n (mandatory x.base)) → r ≡ kept_to t E Q (segments_of x)
+      block_returned r g = rw (g, kept, from_is, first, size, block_kept t E Q x) refl
+
+      -- its entries: those of the places, then that of the optional part
+      pub block_made : (entries places : List Block) → length entries ≡ x.lower + 1 → places ≡ entries_to t M Q' (replicate n (mandatory x.base))
+          → places ++ drop x.lower (set entries x.lower y) ≡ entries_to t E Q (segments_of x)
+      block_made entries places l g =
+          ap (λ ys. places ++ ys) (drop-set entries x.lower y (omega (arith, l)) ∙ ap (◌∷◌ y) (drop_all (x.lower + 1) entries (omega (arith, l))))
+          ∙ rw (g, made, kept, from_is, first, size, block_entries t E Q x) refl
 
 -- ---- all blocks
 
--- the blocks before i are what they were, and the entries of the others stand behind them
-pub record Returning (t : Table) (Q E : ℕ) (a b c : List ℕ) (n total : ℕ) (a' b' c' : List ℕ) (within kept at i : ℕ) : Type 0 where
-  pub before : (k : ℕ) → k < i → numbered a' b' c' k ≡ numbered a b c k
-  pub sum : at ≡ lower_sum (take i (blocks_of a b c n))
-  pub here : within ≡ entering t Q (blocks_of a b c n) i
-  pub inside : Inside kept within
-  pub states : kept ≡ kept_to t E (entering t Q (blocks_of a b c n) i) (segments (drop i (blocks_of a b c n)))
-  pub made : blocks_between a' b' c' (at + i) (total + n) ≡ entries_to t E (entering t Q (blocks_of a b c n) i) (segments (drop i (blocks_of a b c n)))
+-- what each block has, the first of them have
+each_take : (P : Block → Type 0) (xs : List Block) → Each P xs → (i : ℕ) → Each P (take i xs)
+each_take P xs e zero = tt
+each_take P [] e (suc i) = tt
+each_take P (x ∷ xs) e (suc i) = (e.0, each_take P xs e.1 i)
 
--- the block x that is taken next, as number k: its sets and entries begin where those of the blocks before end
-pub record Taken (t : Table) (m n total : ℕ) (sets : List ℕ) (within at k first : ℕ) (x : Block) : Type 0 where
+-- the first i blocks are what they were, the entries of the others stand behind, and the row has the sets of the first i
+pub record Returning (t : Table) (Q E : ℕ) (xs blocks : List Block) (first : ℕ) (row : List ℕ) (kept at i : ℕ) : Type 0 where
+  pub before : take i blocks ≡ take i xs
+  pub start : first ≡ Q
+  pub sets : row ≡ stored t Q (take i xs)
+  pub begins : at ≡ lower_sum (take i xs) + i
+  pub inside : Inside kept (final t Q (segments (take i xs)))
+  pub made : entries_to t E Q (segments xs) ≡ entries_to t kept Q (segments (take i xs)) ++ drop at blocks
+
+-- the block x that is taken next, as number k: its entries and its sets are the last of those left
+pub record Taken (m before : ℕ) (row : List ℕ) (at k : ℕ) (x : Block) : Type 0 where
   pub formed : WellFormed m x
-  pub begins : x.lower ≤ at
-  pub below : at ≤ total
-  pub ends : at - x.lower + k + x.lower + 1 ≤ total + n
-  pub places : Places t x.base first x.lower sets (at - x.lower)
-  pub reached : within ≡ final t first (segments_of x)
+  pub begins : at ≡ before + k + (x.lower + 1)
+  pub fits : sets_of x ≤ length row
 
-module _ (t : Table) (Q E : ℕ) (a b c : List ℕ) (n total : ℕ) (all : total ≡ lower_sum (blocks_of a b c n)) where
-  abbrev xs : List Block
-  xs = blocks_of a b c n
-
-  size : length xs ≡ n
-  size = length_values (numbered a b c) n
+module _ (t : Table) (Q E n : ℕ) (xs : List Block) (size : length xs ≡ n) where
+  all : take n xs ≡ xs
+  all = take_all n xs (omega (arith, size))
 
   -- no block is taken yet
-  pub returning_starts : (within : ℕ) → within ≡ entering t Q xs n → Inside E within
-      → Returning t Q E a b c n total a b c within E total n
-  unfolding kept_to entries_to
-  returning_starts within e f =
-      let none : drop n xs ≡ [] = drop_of_length-le xs {i = n} (omega (arith, size)) in
+  pub returning_starts : (blocks : List Block) (row : List ℕ) → take n blocks ≡ xs → row ≡ stored t Q xs → length blocks ≡ lower_sum xs + n
+      → Inside E (final t Q (segments xs)) → Returning t Q E xs blocks Q row E (length blocks) n
+  returning_starts blocks row e f g h =
       record {
-        before = λ k h. refl;
-        sum = all ∙ sym (sum_all xs n size);
-        here = e;
-        inside = f;
-        states = rw none;
-        made = rw none (between_none a b c (total + n));
+        before = e ∙ sym all;
+        start = refl;
+        sets = rw all f;
+        begins = rw all g;
+        inside = rw all h;
+        made = rw (all, drop_all (length blocks) blocks (omega arith), append-nil) refl;
       }
 
-  module _ (a' b' c' : List ℕ) (within kept at i : ℕ) (returning : Returning t Q E a b c n total a' b' c' within kept at i) where
+  module _ (blocks : List Block) (first : ℕ) (row : List ℕ) (kept at i : ℕ) (returning : Returning t Q E xs blocks first row kept at i) where
     -- all blocks are taken
-    pub returning_ends : i ≡ 0 → blocks_of a' b' c' (total + n) ≡ entries_to t E Q (segments xs)
-    unfolding lower_sum
-    returning_ends first =
-        let start : at + i ≡ 0 = rw first (omega (arith, rw first at returning.sum)) in
-        sym (between_first a' b' c' (total + n)) ∙ rw (start, first, entering_first t Q xs) at returning.made
+    pub returning_ends : i ≡ 0 → blocks ≡ entries_to t E Q (segments xs)
+    unfolding lower_sum entries_to
+    returning_ends none =
+        let old : Returning t Q E xs blocks first row kept at 0 = rw none at returning in
+        let start : at ≡ 0 = omega (arith, old.begins) in
+        sym (rw start at old.made)
 
     -- the next block, i - 1 = k
-    module _ (k : ℕ) (next : i ≡ suc k) (few : i ≤ n) (x : Block) (read : x ≡ numbered a' b' c' k) where
-      there : k < length xs
-      there = omega (arith, size)
+    module _ (k : ℕ) (next : i ≡ suc k) (few : i ≤ n) (long : k < length blocks) (m : ℕ) (room : Room m xs) where
+      abbrev x : Block
+      x = block_at blocks k
+
+      abbrev ys : List Block
+      ys = take k xs
+
+      abbrev P : ℕ
+      P = final t Q (segments ys)
+
+      old : Returning t Q E xs blocks first row kept at (suc k)
+      old = rw next at returning
 
       -- it is what it was
-      same : x ≡ numbered a b c k
-      same = read ∙ returning.before k (omega arith)
-
       is : x ≡ block_at xs k
-      is = entry_is a b c n k x same (omega arith)
+      is =
+          sym (get_or-take (suc k) blocks k (block 0 0 0) (omega arith))
+          ∙ ap (λ l. block_at l k) old.before
+          ∙ get_or-take (suc k) xs k (block 0 0 0) (omega arith)
 
-      -- its sets begin where those of the blocks before end
-      returning_sum : at ≡ lower_sum (take k xs) + x.lower
-      returning_sum = let low : x.lower ≡ (block_at xs k).lower = ap (λ y. y.lower) is in omega (arith, low, rw next at returning.sum, sum_next xs k there)
+      formed : WellFormed m x
+      formed = rw is (each_get (WellFormed m) xs room.each k (block 0 0 0) (omega (arith, size)))
 
-      most : at ≤ total
-      most = omega (arith, returning.sum, sum_mono xs i n few, sum_all xs n size)
+      each : Each Bounded ys
+      each = each_take Bounded xs (each_map (WellFormed m) Bounded (λ y f. f.bounds) xs room.each) k
 
-      module _ (firsts sets : List ℕ) (stored : Stored t Q xs n firsts sets) where
-        first_is : get_or firsts k 0 ≡ entering t Q xs k
-        first_is = stored.first k (omega arith)
+      -- the first i blocks are those before it, and it
+      split : take (suc k) xs ≡ ys ++ x ∷ []
+      split = take-suc xs k (block 0 0 0) (omega (arith, size)) ∙ ap (λ y. ys ++ y ∷ []) (sym is)
 
-        from : at - x.lower ≡ lower_sum (take k xs)
-        from = omega (arith, returning_sum)
+      sets : row ≡ stored t Q (ys ++ x ∷ [])
+      sets = old.sets ∙ ap (stored t Q) split
 
-        -- its R is what stands before the next block
-        returning_within : within ≡ final t (get_or firsts k 0) (segments_of x)
-        returning_within = rw (returning.here, next, first_is, is) (entering_next t Q xs k there)
+      begins : at ≡ lower_sum ys + k + (x.lower + 1)
+      begins = omega (arith, old.begins, ap lower_sum split, sum_snoc ys x)
 
-        -- it is taken
-        pub returning_taken : (m : ℕ) → Room m xs → Taken t m n total sets within at k (get_or firsts k 0) x
-        returning_taken m room =
+      -- it is taken
+      pub returning_taken : Taken m (lower_sum ys) row at k x
+      returning_taken = record { formed = formed; begins = begins; fits = split_fits t Q ys x each formed.bounds row sets }
+
+      -- own are its c sets, and P' is its Q0
+      module _ (c : ℕ) (count : c ≡ sets_of x) (P' : ℕ) (own : List ℕ) (e : P' ≡ get_or (first ∷ row) (length row - c) 0) (f : own ≡ drop (length row - c) row) where
+        from : P' ≡ P
+        from = e ∙ ap₂ (λ q j. get_or (q ∷ row) (length row - j) 0) old.start count ∙ split_first t Q ys x each formed.bounds row sets
+
+        within : Inside kept (final t P (segments_of x))
+        within q h = rw (split, final_snoc t Q ys x) at (old.inside q h)
+
+        pub returning_sets : own ≡ stored_by t P' x
+        returning_sets = f ∙ ap (λ j. drop (length row - j) row) count ∙ split_own t Q ys x each formed.bounds row sets ∙ ap (λ q. stored_by t q x) (sym from)
+
+        pub returning_inside : Inside kept (final t P' (segments_of x))
+        returning_inside q h = rw from (within q h)
+
+        -- its entries are made
+        pub returning_more : (first' : ℕ) (row' : List ℕ) (r : ℕ) (part : List Block) → first' ≡ first → row' ≡ take (length row - c) row
+            → at - (x.lower + 1) ≤ length blocks → r ≡ kept_to t kept P' (segments_of x) → part ≡ entries_to t kept P' (segments_of x)
+            → let at' = at - (x.lower + 1) in Returning t Q E xs (put_mid at' (at - at') blocks part) first' row' r at' k
+        returning_more first' row' r part p q room' g made =
+            let at' = at - (x.lower + 1) in
+            let blocks' = put_mid at' (at - at') blocks part in
+            let back : at' + (at - at') ≡ at = omega arith in
+            let behind : drop at' blocks' ≡ part ++ drop at blocks
+            = drop_at (take at' blocks) (part ++ drop (at - at') (drop at' blocks)) at' (omega (arith, length-take at' blocks))
+            ∙ ap (λ l. part ++ l) (drop-drop (at - at') at' blocks ∙ ap (λ j. drop j blocks) back) in
+            let g' : r ≡ kept_to t kept P (segments_of x) = rw from at g in
+            let made' : part ≡ entries_to t kept P (segments_of x) = rw from at made in
             record {
-              formed = entry_formed a b c n k m x same (omega arith) room;
-              begins = omega (arith, returning_sum);
-              below = most;
-              ends = omega (arith, returning_sum, most);
-              places = rw (from, first_is, is) (stored.places k (omega arith));
-              reached = returning_within;
-            }
-
-        -- its entries are written
-        pub returning_more : (a'' b'' c'' : List ℕ) (r : ℕ) → r ≡ kept_to t kept (get_or firsts k 0) (segments_of x)
-            → Writes a' b' c' (at - x.lower + k) (at - x.lower + k + x.lower + 1) (entries_to t kept (get_or firsts k 0) (segments_of x)) a'' b'' c''
-            → Returning t Q E a b c n total a'' b'' c'' (get_or firsts k 0) r (at - x.lower) k
-        returning_more a'' b'' c'' r e w =
-            let behind : at - x.lower + k + x.lower + 1 ≡ at + i = omega (arith, returning_sum) in
-            let rest = rw next at returning.states in
-            let first : blocks_between a'' b'' c'' (at - x.lower + k) (at + i) ≡ entries_to t kept (get_or firsts k 0) (segments_of x) = rw (← behind) w.made in
-            let others : blocks_between a'' b'' c'' (at + i) (total + n) ≡ entries_to t E (entering t Q xs (suc k)) (segments (drop (suc k) xs))
-            = rw (← next) (between_same a' b' c' a'' b'' c'' (at + i) (total + n) (λ j h. w.behind j (omega (arith, behind))) ∙ returning.made) in
-            record {
-              before = λ j h. w.before j (omega arith) ∙ returning.before j (omega arith);
-              sum = from;
-              here = first_is;
-              inside =
-                  λ q m.
-                  kept_inside t kept (get_or firsts k 0) (segments_of x)
-                  (λ p l. rw (← returning_within) (returning.inside p l)) q (rw e at m);
-              states = rw (e, first_is, rest, is) (sym (kept_next t E Q xs k there));
+              before =
+                  take-put_mid_below at' (at - at') blocks part k (omega (arith, begins)) room'
+                  ∙ sym (take-take k (suc k) blocks (omega arith))
+                  ∙ ap (take k) old.before
+                  ∙ take-take k (suc k) xs (omega arith);
+              start = p ∙ old.start;
+              sets = q ∙ ap (λ j. take (length row - j) row) count ∙ split_front t Q ys x each formed.bounds row sets;
+              begins = omega (arith, begins);
+              inside = λ j h. kept_inside t kept P (segments_of x) within j (rw g' at h);
               made =
-                  between_append a'' b'' c'' (at - x.lower + k) (at + i) (total + n) (omega (arith, behind)) (omega (arith, most))
-                  ∙ ap₂ ◌++◌ first others
-                  ∙ rw (first_is, rest, is) (sym (entries_next t E Q xs k there));
+                  old.made
+                  ∙ ap (λ l. l ++ drop at blocks) (ap (λ zs. entries_to t kept Q (segments zs)) split ∙ entries_snoc t kept Q ys x)
+                  ∙ append_assoc (entries_to t (kept_to t kept P (segments_of x)) Q (segments ys)) (entries_to t kept P (segments_of x)) (drop at blocks)
+                  ∙ ap₂ (λ s l. entries_to t s Q (segments ys) ++ l) (sym g') (ap (λ l. l ++ drop at blocks) (sym made') ∙ sym behind);
             }

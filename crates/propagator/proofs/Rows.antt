@@ -4,18 +4,23 @@ use Prim.Native.Nat.{ℕ, zero, suc, ◌+◌, ◌-◌, ◌^◌, ◌≤◌, ◌<�
 use mathlib.Core.Path.{◌≡◌, refl, ap, sym, ◌∙◌}
 use mathlib.Core.List.{List, [], ◌∷◌, ◌++◌, append_assoc, append-nil}
 use native.Mathlib.Omega.{arith}
-use lib.ListN.{length, take, drop, replicate}
-use lib.Seq.{take-suc, take-length, drop-cons}
+use lib.ListN.{length, get_or, replicate}
 use Rattle.model.specs.declared.Block.{Block}
 use Rattle.model.specs.Set.{has, Member, both, some_member}
-use Rattle.model.specs.DashedString.{block, block_at, Each, Bounded}
+use Rattle.model.specs.DashedString.{Each, Bounded}
 use Rattle.model.specs.Size.{uppers, WellFormed, Room, lower_sum}
 use Rattle.model.specs.Automaton.{Table, Dfa, next}
 use Rattle.model.specs.Passes.{Segment, mandatory, optional, segments_of, segments, after, at_most, to_end, forward, backward, before, pruned, final, kept, entries, finals, narrowed_list}
 use Rattle.model.proofs.Set.{in_both, in_members}
 use Rattle.records.proofs.Checks.{each_map}
 use Rattle.propagator.specs.Moves.{exactly}
-use Rattle.propagator.specs.Rows.{kept_to, entries_to, entering, Inside, Places, set_before}
+use Rattle.propagator.specs.Rows.{kept_to, entries_to, Inside}
+
+-- what each block has, block i has
+pub each_get : (P : Block → Type 0) (xs : List Block) → Each P xs → (i : ℕ) (d : Block) → i < length xs → P (get_or xs i d)
+each_get P [] e i d h = absurd (omega arith)
+each_get P (x ∷ xs) e zero d h = e.0
+each_get P (x ∷ xs) e (suc i) d h = each_get P xs e.1 i d (omega arith)
 
 -- ---- sums of lower bounds
 
@@ -26,23 +31,9 @@ sum_append [] ys = omega arith
 sum_append (x ∷ xs) ys = omega (arith, sum_append xs ys)
 
 -- of one block more
-pub sum_next : (xs : List Block) (i : ℕ) → i < length xs → lower_sum (take (suc i) xs) ≡ lower_sum (take i xs) + (block_at xs i).lower
+pub sum_snoc : (xs : List Block) (x : Block) → lower_sum (xs ++ x ∷ []) ≡ lower_sum xs + x.lower
 unfolding lower_sum
-sum_next xs i h = rw (take-suc xs i (block 0 0 0) h, sum_append) (omega arith)
-
--- of more blocks
-pub sum_mono : (xs : List Block) (i j : ℕ) → i ≤ j → lower_sum (take i xs) ≤ lower_sum (take j xs)
-unfolding lower_sum
-sum_mono [] zero j h = omega arith
-sum_mono [] (suc i) zero h = absurd (omega arith)
-sum_mono [] (suc i) (suc j) h = omega arith
-sum_mono (x ∷ xs) zero j h = omega arith
-sum_mono (x ∷ xs) (suc i) zero h = absurd (omega arith)
-sum_mono (x ∷ xs) (suc i) (suc j) h = omega (arith, sum_mono xs i j (omega arith))
-
--- of all
-pub sum_all : (xs : List Block) (n : ℕ) → length xs ≡ n → lower_sum (take n xs) ≡ lower_sum xs
-sum_all xs n e = rw (← e, take-length)
+sum_snoc xs x = omega (arith, sum_append xs (x ∷ []))
 
 -- at most that of the upper bounds
 pub sum_uppers : (xs : List Block) → Each Bounded xs → lower_sum xs ≤ uppers xs
@@ -57,7 +48,7 @@ sum_small m xs r = omega (arith, sum_uppers xs (each_map (WellFormed m) Bounded 
 -- ---- the states before each block
 
 -- behind two rows, one behind the other
-final_append : (t : Table) (Q : ℕ) (ss rs : List Segment) → final t Q (ss ++ rs) ≡ final t (final t Q ss) rs
+pub final_append : (t : Table) (Q : ℕ) (ss rs : List Segment) → final t Q (ss ++ rs) ≡ final t (final t Q ss) rs
 unfolding final
 final_append t Q [] rs = refl
 final_append t Q (s ∷ ss) rs = final_append t (forward t Q s) ss rs
@@ -87,42 +78,23 @@ unfolding final forward
 block_final t x Q =
     rw (final_append t Q (replicate x.lower (mandatory x.base)) (optional x.base (x.upper - x.lower) ∷ []), places_final t x.base Q x.lower)
 
--- before the first block
-pub entering_first : (t : Table) (Q : ℕ) (xs : List Block) → entering t Q xs 0 ≡ Q
-unfolding entering final
-entering_first t Q xs = refl
-
--- before the next block
-pub entering_next : (t : Table) (Q : ℕ) (xs : List Block) (i : ℕ) → i < length xs
-    → entering t Q xs (suc i) ≡ final t (entering t Q xs i) (segments_of (block_at xs i))
-unfolding entering
-entering_next t Q xs i h =
-    ap (λ ys. final t Q (segments ys)) (take-suc xs i (block 0 0 0) h)
-    ∙ ap (final t Q) (segments_append (take i xs) (block_at xs i ∷ []))
-    ∙ final_append t Q (segments (take i xs)) (segments_of (block_at xs i) ++ [])
-    ∙ ap (final t (final t Q (segments (take i xs)))) (append-nil (segments_of (block_at xs i)))
-
--- behind the last block
-pub entering_last : (b : Dfa) (Q : ℕ) (xs : List Block) (n : ℕ) → length xs ≡ n → entering b.table Q xs n ≡ final b.table Q (segments xs)
-unfolding entering
-entering_last b Q xs n e = rw (← e, take-length)
-
--- the stored set before place j is Qj
-pub set_before_is : (t : Table) (S Q l : ℕ) (sets : List ℕ) (at : ℕ) → Places t S Q l sets at → (j : ℕ) → j ≤ l → set_before Q sets at j ≡ exactly t S Q j
-unfolding exactly
-set_before_is t S Q l sets at p zero h = refl
-set_before_is t S Q l sets at p (suc j) h = p j (omega arith)
+-- behind one block more
+pub final_snoc : (t : Table) (Q : ℕ) (xs : List Block) (x : Block) → final t Q (segments (xs ++ x ∷ [])) ≡ final t (final t Q (segments xs)) (segments_of x)
+final_snoc t Q xs x =
+    ap (final t Q) (segments_append xs (x ∷ []))
+    ∙ final_append t Q (segments xs) (segments_of x ++ [])
+    ∙ ap (final t (final t Q (segments xs))) (append-nil (segments_of x))
 
 -- ---- the states kept
 
 -- over two rows
-kept_append : (t : Table) (E Q : ℕ) (ss rs : List Segment) → kept_to t E Q (ss ++ rs) ≡ kept_to t (kept_to t E (final t Q ss) rs) Q ss
+pub kept_append : (t : Table) (E Q : ℕ) (ss rs : List Segment) → kept_to t E Q (ss ++ rs) ≡ kept_to t (kept_to t E (final t Q ss) rs) Q ss
 unfolding kept_to final
 kept_append t E Q [] rs = refl
 kept_append t E Q (s ∷ ss) rs = ap (backward t Q s) (kept_append t E (forward t Q s) ss rs)
 
 -- what two rows become
-entries_append : (t : Table) (E Q : ℕ) (ss rs : List Segment)
+pub entries_append : (t : Table) (E Q : ℕ) (ss rs : List Segment)
     → entries_to t E Q (ss ++ rs) ≡ entries_to t (kept_to t E (final t Q ss) rs) Q ss ++ entries_to t E (final t Q ss) rs
 unfolding entries_to final
 entries_append t E Q [] rs = refl
@@ -178,18 +150,9 @@ module _ (t : Table) (E Q : ℕ) (x : Block) where
   unfolding kept_to entries_to
   block_entries = rw (entries_append t E Q (replicate x.lower (mandatory x.base)) (rest ∷ []), places_final t x.base Q x.lower)
 
-module _ (t : Table) (E Q : ℕ) (xs : List Block) (i : ℕ) (h : i < length xs) where
-  -- the blocks from i on: that block, and the others
-  from_next : segments (drop i xs) ≡ segments_of (block_at xs i) ++ segments (drop (suc i) xs)
-  from_next = rw (drop-cons xs i (block 0 0 0) h)
-
-  -- the states kept before block i, from those before the next
-  pub kept_next : kept_to t E (entering t Q xs i) (segments (drop i xs))
-      ≡ kept_to t (kept_to t E (entering t Q xs (suc i)) (segments (drop (suc i) xs))) (entering t Q xs i) (segments_of (block_at xs i))
-  kept_next = rw (from_next, entering_next t Q xs i h) (kept_append t E (entering t Q xs i) (segments_of (block_at xs i)) (segments (drop (suc i) xs)))
-
-  -- what the blocks from i on become
-  pub entries_next : entries_to t E (entering t Q xs i) (segments (drop i xs))
-      ≡ entries_to t (kept_to t E (entering t Q xs (suc i)) (segments (drop (suc i) xs))) (entering t Q xs i) (segments_of (block_at xs i))
-      ++ entries_to t E (entering t Q xs (suc i)) (segments (drop (suc i) xs))
-  entries_next = rw (from_next, entering_next t Q xs i h) (entries_append t E (entering t Q xs i) (segments_of (block_at xs i)) (segments (drop (suc i) xs)))
+-- what blocks become, and one block behind them
+pub entries_snoc : (t : Table) (E Q : ℕ) (xs : List Block) (x : Block) → let P = final t Q (segments xs) in
+    entries_to t E Q (segments (xs ++ x ∷ [])) ≡ entries_to t (kept_to t E P (segments_of x)) Q (segments xs) ++ entries_to t E P (segments_of x)
+entries_snoc t E Q xs x =
+    ap (entries_to t E Q) (segments_append xs (x ∷ []) ∙ ap (λ ss. segments xs ++ ss) (append-nil (segments_of x)))
+    ∙ entries_append t E Q (segments xs) (segments_of x)

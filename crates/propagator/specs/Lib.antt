@@ -2,5 +2,4 @@
 pub mod Moves
 pub mod Known
 pub mod Table
-pub mod Entries
 pub mod Rows

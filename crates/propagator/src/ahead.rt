@@ -1,41 +1,38 @@
 // Step 1 of the passes: forward through the blocks.
-ghost use Rattle.std.specs.Prelude.{◌≡◌, ◌+◌, ◌≤◌, length};
+ghost use Rattle.std.specs.Prelude.{◌≡◌, ◌+◌, ◌≤◌, length, take};
 ghost use Rattle.model.specs.Size.{Room, lower_sum};
 ghost use Rattle.model.specs.Passes as passes;
-ghost use Rattle.model.specs.Passes.{segments_of, final};
-ghost use Rattle.propagator.specs.Entries.{blocks_of, Enough};
+ghost use Rattle.model.specs.Passes.{segments_of, segments, final};
 ghost use Rattle.propagator.specs.Moves.{Below, exactly};
 ghost use Rattle.propagator.specs.Table.{table};
-ghost use Rattle.propagator.specs.Rows.{Keeps, Places, Stored, entering};
+ghost use Rattle.propagator.specs.Rows.{sets_of, stored_sum, places_of, stored_by, stored};
 
 use crate::known::Steps;
-use crate::three::block_at;
+use crate::row::sets_of;
 use model::Block;
 
-// What stands behind the last block: the states possible there, and the sum of the lower bounds.
+// What stands behind the last block: the states possible there, and how many entries and stored sets the blocks have.
 #[derive(Clone, Copy)]
 pub(crate) struct Behind {
     pub states: u64,
-    pub sum: usize,
+    pub entries: usize,
+    pub stored: usize,
 }
 
-// Stores Q1 to Ql, `count` sets, from element `at` on, where `from` is Q0; returns Ql. Where a set repeats, all that follow
-// are that set.
-fn fill_places(steps: &mut Steps, from: u64, sets: &mut [u64], at: usize, count: usize) -> u64
-    requires { at + count ≤ length sets.old }
-    ensures value { result ≡ exactly (table steps.old.letters.moves) steps.old.letters.set from count }
+// Stores Q1 to Ql, where `from` is Q0; returns Ql. Where a set repeats, all that follow are that set.
+fn fill_places(steps: &mut Steps, from: u64, places: &mut [u64]) -> u64
+    ensures value { result ≡ exactly (table steps.old.letters.moves) steps.old.letters.set from (length places.old) }
     ensures same { steps.new.letters ≡ steps.old.letters }
-    ensures places { Places (table steps.old.letters.moves) steps.old.letters.set from count sets.new at }
-    ensures keeps { Keeps sets.old sets.new at }
+    ensures places { places.new ≡ places_of (table steps.old.letters.moves) steps.old.letters.set from (length places.old) }
 {
     let mut set = from;
-    for j in 0..count {
+    for j in 0..places.len() {
         let next = steps.step(set);
         if next == set {
-            sets[at + j..at + count].fill(set);
+            places[j..].fill(set);
             return set;
         }
-        sets[at + j] = next;
+        places[j] = next;
         set = next;
     }
     set
@@ -59,48 +56,42 @@ fn reached(steps: &mut Steps, from: u64, width: usize) -> u64
     all
 }
 
-// One block: stores its Q1 to Ql from element `at` on, where `from` is its Q0; returns its R.
-#[tactic(auto, using(crate::proofs::Forth::block_passed))]
-fn pass_block(steps: &mut Steps, block: Block, from: u64, sets: &mut [u64], at: usize) -> u64
+// One block: stores its Q1 to Ql and, where l < u, its R, where `from` is its Q0; returns its R.
+fn pass_block(steps: &mut Steps, block: Block, from: u64, sets: &mut [u64]) -> u64
     requires formed { Below steps.old.letters.moves.letters block.base × (block.lower ≤ block.upper) }
-    requires lower_in_bounds { at + block.lower ≤ length sets.old }
+    requires size { length sets.old ≡ sets_of block }
     ensures value { result ≡ final (table steps.old.letters.moves) from (segments_of block) }
     ensures moves { steps.new.letters.moves ≡ steps.old.letters.moves }
-    ensures places { Places (table steps.old.letters.moves) block.base from block.lower sets.new at }
-    ensures keeps { Keeps sets.old sets.new at }
+    ensures sets { sets.new ≡ stored_by (table steps.old.letters.moves) from block }
 {
     steps.turn_to(block.base);
-    let last = fill_places(steps, from, sets, at, block.lower as usize);
-    reached(steps, last, (block.upper - block.lower) as usize)
+    let places = block.lower as usize;
+    let last = fill_places(steps, from, &mut sets[..places]);
+    let states = reached(steps, last, (block.upper - block.lower) as usize);
+    sets[places..].fill(states);
+    states
 }
 
-// Goes through the blocks: stores Q0 of each in `firsts`, and its Q1 to Ql in `sets` from the sum of the earlier lower bounds
-// on. `start` is the first block's Q0.
-pub(crate) fn go_ahead(
-    steps: &mut Steps,
-    bases: &[u64],
-    lowers: &[u16],
-    uppers: &[u16],
-    count: usize,
-    start: u64,
-    firsts: &mut [u64],
-    sets: &mut [u64],
-) -> Behind
-    requires enough { Enough bases.now lowers.now uppers.now count }
-    requires room { Room steps.old.letters.moves.letters (blocks_of bases.now lowers.now uppers.now count) }
-    requires count_in_bounds { (count ≤ length firsts.old) × (lower_sum (blocks_of bases.now lowers.now uppers.now count) ≤ length sets.old) }
-    ensures { let t = table steps.old.letters.moves in
-        let xs = blocks_of bases.now lowers.now uppers.now count in
-        (result.states ≡ entering t start xs count) × (result.sum ≡ lower_sum xs)
-        × Stored t start xs count firsts.new sets.new }
+// Goes through the blocks and stores their sets one after another. `start` is the first block's Q0.
+pub(crate) fn go_ahead(steps: &mut Steps, blocks: &[Block], start: u64, sets: &mut [u64]) -> Behind
+    requires room { Room steps.old.letters.moves.letters blocks.now }
+    requires sets_fit { stored_sum blocks.now ≤ length sets.old }
+    ensures states { result.states ≡ final (table steps.old.letters.moves) start (segments blocks.now) }
+    ensures entries { result.entries ≡ lower_sum blocks.now + length blocks.now }
+    ensures sets { (result.stored ≡ stored_sum blocks.now) × (take result.stored sets.new ≡ stored (table steps.old.letters.moves) start blocks.now) }
 {
     let mut states = start;
+    let mut entries = 0;
     let mut at = 0;
-    for i in 0..count {
-        firsts[i] = states;
-        let block = block_at(bases, lowers, uppers, i);
-        states = pass_block(steps, block, states, sets, at);
-        at += block.lower as usize;
+    for block in blocks {
+        let end = at + sets_of(*block);
+        states = pass_block(steps, *block, states, &mut sets[at..end]);
+        entries += block.lower as usize + 1;
+        at = end;
     }
-    Behind { states, sum: at }
+    Behind {
+        states,
+        entries,
+        stored: at,
+    }
 }

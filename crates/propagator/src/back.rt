@@ -1,111 +1,60 @@
 // Steps 3 to 5 of the passes: back through the blocks, from the last.
-ghost use Rattle.std.specs.Prelude.{◌≡◌, ◌+◌, ◌≤◌, ◌<◌, length};
+ghost use Rattle.std.specs.Prelude.{◌≡◌, ◌+◌, ◌≤◌, length, take};
 ghost use Rattle.model.specs.Size.{Room, lower_sum};
 ghost use Rattle.model.specs.Passes.{segments_of, segments, final};
-ghost use Rattle.propagator.specs.Entries.{blocks_of, Enough};
 ghost use Rattle.propagator.specs.Moves.{Below};
 ghost use Rattle.propagator.specs.Table.{table};
-ghost use Rattle.propagator.specs.Rows.{kept_to, entries_to, entering, Inside, Places, Stored, Writes};
+ghost use Rattle.propagator.specs.Rows.{kept_to, entries_to, Inside, stored_by, stored};
 
 use crate::letters::Letters;
 use crate::moving::Moves;
-use crate::places::set_before;
-use crate::three::{block_at, store};
+use crate::row::{Row, sets_of};
 use model::Block;
 
-// One block: its entries are those from `entry` on. `first` is its Q0, its Q1 to Ql stand in `sets` from `at` on, `within` is
-// its R and `end` its E; returns its M0.
-fn narrow_block(
-    moves: Moves,
-    block: Block,
-    first: u64,
-    sets: &[u64],
-    at: usize,
-    within: u64,
-    end: u64,
-    bases: &mut [u64],
-    lowers: &mut [u16],
-    uppers: &mut [u16],
-    entry: usize,
-) -> u64
+// One block: makes its entries. `row` are its sets, Q0 before them, and `end` is its E; returns its M0.
+fn narrow_block(moves: Moves, block: Block, row: Row, end: u64, entries: &mut [Block]) -> u64
     requires formed { Below moves.letters block.base × (block.lower ≤ block.upper) }
-    requires lower_in_bounds { (at + block.lower ≤ length sets.now) × Inside end within }
-    requires places { Places (table moves) block.base first block.lower sets.now at }
-    requires within_value { within ≡ final (table moves) first (segments_of block) }
-    requires enough { Enough bases.old lowers.old uppers.old (entry + block.lower + 1) }
-    ensures value { result ≡ kept_to (table moves.entry) end first (segments_of block) }
-    ensures writes { Writes bases.old lowers.old uppers.old entry (entry + block.lower + 1)
-        (entries_to (table moves.entry) end first (segments_of block))
-        bases.new lowers.new uppers.new }
+    requires size { length entries.old ≡ block.lower + 1 }
+    requires sets { row.sets.now ≡ stored_by (table moves) row.first block }
+    requires inside { Inside end (final (table moves) row.first (segments_of block)) }
+    ensures value { result ≡ kept_to (table moves.entry) end row.entry.first (segments_of block) }
+    ensures entries { entries.new ≡ entries_to (table moves.entry) end row.entry.first (segments_of block) }
 {
-    let places = block.lower as usize;
-    let from = set_before(first, sets, at, places);
     let letters = Letters {
         moves,
         set: block.base,
     };
-    let optional = letters.narrow_optional(block.upper - block.lower, from, within, end);
-    store(bases, lowers, uppers, entry + places, optional.block);
+    let count = block.lower as usize;
+    let within = row.set_before(row.sets.len());
+    let (places, behind) = row.split_at(count);
+    let optional = letters.narrow_optional(block.upper - block.lower, behind.first, within, end);
+    entries[count] = optional.block;
     letters.narrow_places(
-        first,
-        sets,
-        at,
         places,
         optional.states,
         optional.kept,
-        bases,
-        lowers,
-        uppers,
-        entry,
+        &mut entries[..count],
     )
 }
 
-// Goes back through the blocks and puts the entries of each in its place, over the blocks themselves: block i's entries
-// begin at i or behind. `behind` are the states possible behind the last block and `end` those kept there, `total` is the sum
-// of the lower bounds.
-pub(crate) fn go_back(
-    moves: Moves,
-    bases: &mut [u64],
-    lowers: &mut [u16],
-    uppers: &mut [u16],
-    count: usize,
-    start: u64,
-    firsts: &[u64],
-    sets: &[u64],
-    behind: u64,
-    end: u64,
-    total: usize,
-)
-    requires enough { Enough bases.old lowers.old uppers.old (total + count) }
-    requires room { Room moves.letters (blocks_of bases.old lowers.old uppers.old count) }
-    requires count_in_bounds { (count ≤ length firsts.now) × (total ≤ length sets.now) × Inside end behind }
-    requires fact { let xs = blocks_of bases.old lowers.old uppers.old count in
-        (total ≡ lower_sum xs) × (behind ≡ entering (table moves) start xs count)
-        × Stored (table moves) start xs count firsts.now sets.now }
-    ensures { let xs = blocks_of bases.old lowers.old uppers.old count in
-        blocks_of bases.new lowers.new uppers.new (total + count)
-        ≡ entries_to (table moves.entry) end start (segments xs) }
+// Goes back through the first `count` blocks and puts the entries of each in its place, over the blocks themselves: block i's
+// entries begin at i or behind. `row` are the sets of these blocks, the start before them, and `end` the states kept behind the
+// last.
+pub(crate) fn go_back(moves: Moves, mut row: Row, end: u64, blocks: &mut [Block], count: usize)
+    requires room { Room moves.letters (take count blocks.old) }
+    requires size { length blocks.old ≡ lower_sum (take count blocks.old) + count }
+    requires sets { row.sets.now ≡ stored (table moves) row.first (take count blocks.old) }
+    requires inside { Inside end (final (table moves) row.first (segments (take count blocks.old))) }
+    ensures { blocks.new ≡ entries_to (table moves.entry) end row.entry.first (segments (take count blocks.old)) }
 {
-    let mut within = behind;
     let mut kept = end;
-    let mut at = total;
+    let mut at = blocks.len();
     for i in (0..count).rev() {
-        let block = block_at(bases, lowers, uppers, i);
-        let first = firsts[i];
-        at -= block.lower as usize;
-        kept = narrow_block(
-            moves,
-            block,
-            first,
-            sets,
-            at,
-            within,
-            kept,
-            bases,
-            lowers,
-            uppers,
-            at + i,
-        );
-        within = first;
+        let block = blocks[i];
+        let (front, own) = row.split_at(row.sets.len() - sets_of(block));
+        let behind = at;
+        at -= block.lower as usize + 1;
+        kept = narrow_block(moves, block, own, kept, &mut blocks[at..behind]);
+        row = front;
     }
 }

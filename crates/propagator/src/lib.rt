@@ -2,11 +2,10 @@
 // the blocks is lent.
 #![tactic(auto)]
 
-ghost use Rattle.std.specs.Prelude.{◌+◌, ◌*◌, ◌≤◌, ◌<◌, length};
-ghost use Rattle.model.specs.Size.{Room};
+ghost use Rattle.std.specs.Prelude.{◌+◌, ◌*◌, ◌≤◌, ◌<◌, length, take};
+ghost use Rattle.model.specs.Size.{Room, lower_sum};
 ghost use Rattle.records.specs.Book.{automaton_of};
-ghost use Rattle.propagator.specs.Entries.{blocks_of};
-ghost use Rattle.propagator.specs.Rows.{Scratch, Leaves};
+ghost use Rattle.propagator.specs.Rows.{stored_sum, Leaves};
 
 mod ahead;
 mod back;
@@ -16,13 +15,15 @@ mod letters;
 mod moving;
 mod optional;
 mod places;
-mod three;
+mod row;
 
 use ahead::{Behind, go_ahead};
 use back::go_back;
 use known::Steps;
+use model::Block;
 use moving::Moves;
 use records::Book;
+use row::Row;
 
 // What the passes found: the states possible behind the last block, and how many entries the narrowed list has.
 #[derive(Clone, Copy)]
@@ -31,23 +32,20 @@ pub struct Passed {
     pub entries: usize,
 }
 
-// The passes over the first `count` blocks, whose sets and bounds the three slices hold. Where some code is legal, the first
-// entries of these are the narrowed list then; else nothing is said of them. `firsts` and `sets` are room.
+// The passes over the first `count` blocks. Where some code is legal, the first entries of the slice are the narrowed list then;
+// else nothing is said of them. `sets` is room.
 pub fn pass(
     book: Book,
     moves: &[u8],
-    bases: &mut [u64],
-    lowers: &mut [u16],
-    uppers: &mut [u16],
+    blocks: &mut [Block],
     count: usize,
-    firsts: &mut [u64],
     sets: &mut [u64],
 ) -> Passed
     requires states_bound { (book.states < 64) × (book.start < book.states) × (book.states * book.letters ≤ length moves.now) }
-    requires room { Room book.letters (blocks_of bases.old lowers.old uppers.old count) }
-    requires scratch { Scratch bases.old lowers.old uppers.old count firsts.old sets.old }
-    ensures { Leaves (automaton_of book moves.now) bases.old lowers.old uppers.old count
-        bases.new lowers.new uppers.new result }
+    requires room { Room book.letters (take count blocks.old) }
+    requires blocks_fit { lower_sum (take count blocks.old) + count ≤ length blocks.old }
+    requires sets_fit { stored_sum (take count blocks.old) ≤ length sets.old }
+    ensures { Leaves (automaton_of book moves.now) (take count blocks.old) blocks.new result }
 {
     let moves = Moves {
         states: book.states,
@@ -56,15 +54,18 @@ pub fn pass(
     };
     let mut steps = Steps::new(moves);
     let start = bitset::add(0, book.start);
-    let Behind { states, sum } = go_ahead(
-        &mut steps, bases, lowers, uppers, count, start, firsts, sets,
-    );
-    let entries = sum + count;
+    let Behind {
+        states,
+        entries,
+        stored,
+    } = go_ahead(&mut steps, &blocks[..count], start, sets);
     let end = bitset::intersection(states, book.accepting);
     if end != 0 {
-        go_back(
-            moves, bases, lowers, uppers, count, start, firsts, sets, states, end, sum,
-        );
+        let row = Row {
+            first: start,
+            sets: &sets[..stored],
+        };
+        go_back(moves, row, end, &mut blocks[..entries], count);
     }
     Passed { states, entries }
 }

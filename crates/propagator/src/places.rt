@@ -1,12 +1,11 @@
 // Step 5 of the passes: the mandatory places of a block.
-ghost use Rattle.std.specs.Prelude.{◌≡◌, ◌+◌, ◌≤◌, length, replicate, IfSome};
+ghost use Rattle.std.specs.Prelude.{◌≡◌, length, replicate, IfSome};
 ghost use Rattle.model.specs.Passes.{mandatory};
-ghost use Rattle.propagator.specs.Entries.{Enough};
 ghost use Rattle.propagator.specs.Table.{table};
-ghost use Rattle.propagator.specs.Rows.{kept_to, entries_to, Becomes, Places, set_before, Writes};
+ghost use Rattle.propagator.specs.Rows.{kept_to, entries_to, Becomes, places_of};
 
 use crate::letters::Letters;
-use crate::three::store;
+use crate::row::Row;
 use model::Block;
 
 // What a place becomes that has the states `from` before it and the states `to` kept behind it: the letters that stay, and the
@@ -17,14 +16,6 @@ pub(crate) struct Kept {
     pub to: u64,
     pub letters: u64,
     pub states: u64,
-}
-
-// The set before place `j`, from 0, of a block whose Q0 is `first` and whose Q1 to Ql stand in `sets` from `at` on.
-pub(crate) fn set_before(first: u64, sets: &[u64], at: usize, j: usize) -> u64
-    requires { at + j ≤ length sets.now }
-    ensures { result ≡ set_before first sets.now at j }
-{
-    if j == 0 { first } else { sets[at + j - 1] }
 }
 
 impl<'a> Letters<'a> {
@@ -58,49 +49,33 @@ impl<'a> Letters<'a> {
         }
     }
 
-    // The places of a block, `count` of them, from the last to the first: their entries are those from `entry` on, `end` are the
+    // The places of a block, from the last to the first: makes their entries. `row` are Q1 to Ql, Q0 before them, and `end` the
     // states kept behind the last; returns those kept before the first. `last` is what some place became: one between the same
     // sets becomes that too, and so one between the same sets as the place behind it.
     pub(crate) fn narrow_places(
         self,
-        first: u64,
-        sets: &[u64],
-        at: usize,
-        count: usize,
+        row: Row,
         end: u64,
         mut last: Option<Kept>,
-        bases: &mut [u64],
-        lowers: &mut [u16],
-        uppers: &mut [u16],
-        entry: usize,
+        entries: &mut [Block],
     ) -> u64
-        requires room { at + count ≤ length sets.now }
-        requires places { Places (table self.moves) self.set first count sets.now at }
+        requires places { row.sets.now ≡ places_of (table self.moves) self.set row.first (length entries.old) }
         requires becomes { IfSome last (λ kept. Becomes (table self.moves) self.set kept.from kept.to kept) }
-        requires enough { Enough bases.old lowers.old uppers.old (entry + count) }
-        ensures value { result ≡ kept_to (table self.entry.moves) end first (replicate count (mandatory self.entry.set)) }
-        ensures writes { Writes bases.old lowers.old uppers.old entry (entry + count)
-            (entries_to (table self.entry.moves) end first (replicate count (mandatory self.entry.set)))
-            bases.new lowers.new uppers.new }
+        ensures value { result ≡ kept_to (table self.entry.moves) end row.entry.first (replicate (length entries.old) (mandatory self.entry.set)) }
+        ensures entries { entries.new ≡ entries_to (table self.entry.moves) end row.entry.first (replicate (length entries.old) (mandatory self.entry.set)) }
     {
         let mut states = end;
-        for j in (0..count).rev() {
-            let before = set_before(first, sets, at, j);
+        for j in (0..entries.len()).rev() {
+            let before = row.set_before(j);
             let kept = match last {
                 Some(kept) if kept.from == before && kept.to == states => kept,
                 _ => self.narrow_place(before, states),
             };
-            store(
-                bases,
-                lowers,
-                uppers,
-                entry + j,
-                Block {
-                    base: kept.letters,
-                    lower: 1,
-                    upper: 1,
-                },
-            );
+            entries[j] = Block {
+                base: kept.letters,
+                lower: 1,
+                upper: 1,
+            };
             states = kept.states;
             last = Some(kept);
         }

@@ -1,36 +1,35 @@
 -- `propagator::ahead::go_ahead` meets its contract.
-use mathlib.Core.Path.{refl, ◌∙◌}
+use mathlib.Core.Path.{◌∙◌}
 use native.Mathlib.Omega.{arith}
-use Rattle.propagator.proofs.Forth.{passing_starts, passing_sum, passing_more, passing_ends}
 use Rattle.propagator.proofs.Rows.{sum_small}
-use Rattle.propagator.proofs.Slices.{entry_formed}
+use Rattle.propagator.proofs.Forth.{passing_fits, passing_more, passing_ends}
 use Rattle.propagator.proofs.ahead.go_ahead.Goals as goal
 
-pub loop-i-init : goal.loop-i-init
-loop-i-init c = record { same = refl; passing = passing_starts _ _ _ _ _ }
+pub overflow_add-end : goal.overflow_add-end
+overflow_add-end c =
+    let fits = passing_fits _ _ _ _ _ _ _ _ c.loop-block.invariant.passing (omega arith) _ c.sets_of.ensures in
+    omega (arith, fits, c.requires.sets_fit, c.well_formed)
 
-pub pass_block-states-requires : goal.pass_block-states-requires
-pass_block-states-requires c =
-    let inv = c.loop-i.invariant in
-    let formed = entry_formed _ _ _ _ _ _ _ c.block_at-block.ensures (omega arith) c.requires.room in
-    let sum = passing_sum _ _ _ _ _ _ _ _ _ _ _ inv.passing _ c.block_at-block.ensures (omega arith) in
-    record { formed = (rw inv.same formed.letters, formed.bounds); lower_in_bounds = omega (arith, sum) }
+pub slice_bounds-pass_block-end : goal.slice_bounds-pass_block-end
+slice_bounds-pass_block-end c =
+    let fits = passing_fits _ _ _ _ _ _ _ _ c.loop-block.invariant.passing (omega arith) _ c.sets_of.ensures in
+    omega (arith, fits, c.requires.sets_fit)
 
-pub overflow_add-at : goal.overflow_add-at
-overflow_add-at c =
-    let sum = passing_sum _ _ _ _ _ _ _ _ _ _ _ c.loop-i.invariant.passing _ c.block_at-block.ensures (omega arith) in
-    omega (arith, sum, sum_small _ _ c.requires.room)
+pub overflow_add-entries-in-loop-block : goal.overflow_add-entries-in-loop-block
+overflow_add-entries-in-loop-block c =
+    let fits = passing_fits _ _ _ _ _ _ _ _ c.loop-block.invariant.passing (omega arith) _ c.sets_of.ensures in
+    omega (arith, fits, sum_small _ _ c.requires.room, c.well_formed)
 
-pub loop-i-preserved : goal.loop-i-preserved
-loop-i-preserved c =
+pub loop-block-preserved : goal.loop-block-preserved
+loop-block-preserved c =
     let after = c.pass_block-states.ensures in
-    let same = c.loop-i.invariant.same in
     record {
-      same = after.moves ∙ same;
-      passing =
-          passing_more _ _ _ _ _ _ _ _ _ _ _ c.loop-i.invariant.passing _ c.block_at-block.ensures (omega arith) _ _ (omega arith) (rw same at after.value)
-          (rw same at after.places) after.keeps;
+      same = after.moves ∙ c.loop-block.invariant.same;
+      passing = passing_more _ _ _ _ _ _ _ _ c.loop-block.invariant.passing (omega arith) _ c.sets_of.ensures _ c.requires.room _ _
+          (rw c.loop-block.invariant.same at after.value) (rw c.loop-block.invariant.same at after.sets) (omega arith);
     }
 
 pub returns : goal.returns
-returns c = passing_ends _ _ _ _ _ _ _ _ _ _ _ c.loop-i.invariant.passing (omega arith)
+returns c =
+    let (states, entries, stored, sets) = passing_ends _ _ _ _ _ _ _ _ c.loop-block.invariant.passing (omega arith) in
+    record { states = states; entries = entries; sets = (stored, sets) }

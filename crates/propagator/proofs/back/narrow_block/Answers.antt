@@ -1,25 +1,44 @@
 -- `propagator::back::narrow_block` meets its contract.
+use mathlib.Core.Path.{◌≡◌}
+use native.Mathlib.Omega.{arith}
 use borrow.Author.Rules.{rules}
-use Rattle.propagator.proofs.Returning.{inside_both, within_is, block_returned, block_written}
+use lib.ListN.{length, set, take, length-take, length-set}
+use Rattle.propagator.proofs.Returning.{block_long, block_front, block_within, block_returned, block_made}
 use Rattle.propagator.proofs.back.narrow_block.Goals as goal
+use Rattle.propagator.proofs.back.narrow_block.Goals.{After-narrow_optional-optional}
+
+-- as many entries as places are lent on
+few : (c : After-narrow_optional-optional)
+    → length (take c.args.block.lower (set c.args.entries.now c.args.block.lower c.narrow_optional-optional.result.block)) ≡ c.args.block.lower
+few c =
+    let all = set c.args.entries.now c.args.block.lower c.narrow_optional-optional.result.block in
+    omega (arith, c.requires.size, length-take c.args.block.lower all, length-set c.args.entries.now c.args.block.lower c.narrow_optional-optional.result.block)
+
+pub split_at-requires : goal.split_at-requires
+split_at-requires c = block_long _ _ _ _ c.requires.formed.1 c.requires.sets
 
 pub narrow_optional-optional-requires : goal.narrow_optional-optional-requires
 narrow_optional-optional-requires c =
     record {
-      within_value = (
-        within_is _ _ _ _ _ c.requires.places _ _ c.set_before-from.ensures c.requires.within_value,
-        inside_both _ _ (search rules) (search rules) c.requires.lower_in_bounds.1,
-      );
+      within_value = block_within _ _ _ _ c.requires.formed.1 c.requires.sets _ _ _ c.split_at.ensures.behind.0 c.set_before-within.ensures
+          (search rules) (search rules) c.requires.inside;
     }
+
+pub narrow_places-requires-clause-places : goal.narrow_places-requires-clause-places
+narrow_places-requires-clause-places c =
+    let (first, sets) = c.split_at.ensures.front in
+    block_front _ _ _ _ c.requires.formed.1 c.requires.sets _ _ _ first sets (few (goal.at.narrow_places-requires-clause-places c).After-narrow_optional-optional)
 
 pub returns-clause-value : goal.returns-clause-value
 returns-clause-value c =
     let optional = c.narrow_optional-optional.ensures in
-    block_returned _ _ _ _ _ c.requires.places _ _ c.set_before-from.ensures _ _ optional.block_value optional.states_value _ c.narrow_places.ensures.value
+    block_returned _ _ _ _ c.requires.formed.1 c.requires.sets _ _ _ c.split_at.ensures.behind.0 c.set_before-within.ensures _ _
+    optional.block_value optional.states_value _ _ c.split_at.ensures.front.0 (few (goal.at.returns-clause-value c).After-narrow_optional-optional)
+    _ c.narrow_places.ensures.value
 
-pub returns-clause-writes : goal.returns-clause-writes
-returns-clause-writes c =
+pub returns-clause-entries : goal.returns-clause-entries
+returns-clause-entries c =
     let optional = c.narrow_optional-optional.ensures in
-    let stored = c.store.ensures in
-    block_written _ _ _ _ _ c.requires.places _ _ c.set_before-from.ensures _ _ optional.block_value optional.states_value _ _ _ _ _ _ _ _ _ _
-    c.requires.enough stored.bases_after stored.lowers_after stored.uppers_after c.narrow_places.ensures.writes
+    block_made _ _ _ _ c.requires.formed.1 c.requires.sets _ _ _ c.split_at.ensures.behind.0 c.set_before-within.ensures _ _
+    optional.block_value optional.states_value _ _ c.split_at.ensures.front.0 (few (goal.at.returns-clause-entries c).After-narrow_optional-optional)
+    _ _ c.requires.size c.narrow_places.ensures.entries

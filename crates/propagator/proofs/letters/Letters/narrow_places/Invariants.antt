@@ -1,3 +1,4 @@
+use lib.ListN.{length}
 use Rattle.std.specs.Option.{IfSome}
 use Rattle.propagator.specs.Table.{table}
 use Rattle.propagator.specs.Rows.{Becomes}
@@ -7,5 +8,5 @@ use Rattle.propagator.proofs.letters.Letters.narrow_places.Given as goal
 abbrev pub invariant-loop-j : goal.invariant-loop-j
 invariant-loop-j l = let t = table l.self.moves in record {
   last : IfSome l.last (λ kept. Becomes t l.self.set kept.from kept.to kept);
-  placing : Placing t l.self.set l.first l.count l.end l.initial.bases l.initial.lowers l.initial.uppers l.entry l.bases l.lowers l.uppers l.states l.j;
+  placing : Placing t l.self.set l.row.first l.end (length l.initial.entries) l.entries l.states l.j;
 }
