@@ -1,10 +1,12 @@
 -- The numbers of the entries of the narrowed list.
 -- Assumes nothing.
-use Prim.Native.Nat.{ℕ, zero, suc, ◌+◌, ◌-◌, ◌*◌, ◌≤◌, ◌<◌}
+use Prim.Native.Nat.{ℕ, zero, suc, ◌+◌, ◌-◌, ◌*◌, ◌^◌, ◌≤◌, ◌<◌}
 use mathlib.Core.Path.{◌≡◌, refl}
-use mathlib.Core.List.{List, [], ◌∷◌}
+use mathlib.Core.List.{List, [], ◌∷◌, map}
 use native.Mathlib.Omega.{arith}
-use lib.ListN.{length}
+use lib.ListN.{length, take}
+use Rattle.std.specs.List.{sum, sum_by}
+use Rattle.std.proofs.lemmas.List.Sums.{sum-map, sum_by-cons}
 use Rattle.model.specs.declared.Block.{Block}
 use Rattle.model.specs.Refusal.{accepted}
 use Rattle.model.specs.DashedString.{block_at}
@@ -36,10 +38,16 @@ entry_within xs i (suc j) h l = omega (arith, begins_within xs i h)
 
 -- ---- counting the entries of the blocks of a mask
 
--- none is before the first block
-pub begins_first : (xs : List Block) → 0 ≡ begins xs 0
-begins_first [] = refl
-begins_first (x ∷ xs) = refl
+-- the entries of a block: its places, and its optional part
+abbrev pub entries_of : Block → ℕ
+entries_of x = x.lower + 1
+
+-- the first i blocks have as many as the sum says
+pub begins_sum : (xs : List Block) (i : ℕ) → sum_by entries_of (take i xs) ≡ begins xs i
+begins_sum [] zero = refl
+begins_sum [] (suc i) = refl
+begins_sum (x ∷ xs) zero = refl
+begins_sum (x ∷ xs) (suc i) = omega (arith, sum_by-cons entries_of x (take i xs), begins_sum xs i)
 
 -- a mask that is not refused
 module _ (ms : List ℕ) (none : mask_refusal ms ≡ accepted) where
@@ -60,11 +68,11 @@ module _ (ms : List ℕ) (none : mask_refusal ms ≡ accepted) where
     pub optional_entry : (j : ℕ) → j ≡ 0 → first + x.lower ≡ entry_of (mask_of ms) i j
     optional_entry j z = rw (z, begin, is)
 
-    -- and the next block's begin behind them
-    pub begins_next : first + (x.lower + 1) ≡ begins (mask_of ms) (i + 1)
-    begins_next =
-        let next : i + 1 ≡ suc i = omega arith in
-        rw (next, begin, is) (omega (arith, begins_more (mask_of ms) i (omega (arith, blocks_counted ms))))
+-- where the entries of a block begin is a small number
+pub begins_few : (ms : List ℕ) → mask_refusal ms ≡ accepted → (i : ℕ) → i < count ms → sum (map entries_of (take i (mask_of ms))) < 2 ^ 64
+begins_few ms none i h =
+    let few = entries_few ms none i _ _ h refl refl in
+    rw (sum-map entries_of (take i (mask_of ms)), begins_sum) (omega (arith, few))
 
 -- the entry of a place
 pub mandatory_entry : (xs : List Block) (i first j : ℕ) → first ≡ begins xs i → ¬ (j ≡ 0) → first + (j - 1) ≡ entry_of xs i j

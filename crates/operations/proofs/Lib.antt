@@ -8,9 +8,9 @@ pub mod Passing
 pub mod Judging
 pub mod NarrowPromise
 pub mod Lists
-pub mod Filled
 pub mod Told
 pub mod EntryNumbers
 pub mod Placed
+pub mod Joining
 pub mod Tidying
 pub mod Trying

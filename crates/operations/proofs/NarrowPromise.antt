@@ -1,6 +1,6 @@
 -- What narrow promises, from what its steps give.
 -- Assumes nothing.
-use Prim.Native.Nat.{ℕ, ◌+◌, ◌*◌, ◌^◌, ◌≤◌, ◌<◌}
+use Prim.Native.Nat.{ℕ, ◌+◌, ◌-◌, ◌*◌, ◌^◌, ◌≤◌, ◌<◌}
 use Rattle.std.proofs.Common.{Option, Result, Ok, Err}
 use Rattle.std.proofs.Common as option
 use mathlib.Core.Path.{◌≡◌, refl, ◌∙◌, sym}
@@ -9,7 +9,8 @@ use mathlib.Core.Bool.{Bool, true, false, not}
 use mathlib.Core.List.{List}
 use native.Mathlib.Omega.{arith}
 use borrow.Author.Tests.{le-ltb}
-use lib.ListN.{length, take}
+use lib.ListN.{length, take, drop, length-drop}
+use lib.Seq.{take_all}
 use Rattle.model.specs.declared.Block.{Block}
 use Rattle.model.specs.declared.Refusal.{Refusal}
 use Rattle.model.specs.declared.Refusal.TheVariants as refusal
@@ -18,7 +19,7 @@ use Rattle.model.specs.Refusal.{number, accepted, unless}
 use Rattle.model.specs.declared.Verdict.{Verdict}
 use Rattle.model.specs.declared.Verdict.TheVariants.{None, All, One, Some}
 use Rattle.model.specs.Set.{has, both, some_member}
-use Rattle.model.specs.DashedString.{Each, Bounded}
+use Rattle.model.specs.DashedString.{Bounded}
 use Rattle.model.specs.Automaton.{Dfa}
 use Rattle.model.specs.Passes.{narrowed_list}
 use Rattle.model.specs.NormalForm.{normal, Reduced}
@@ -37,7 +38,7 @@ use Rattle.records.proofs.Answers.{unless_ok}
 use Rattle.records.proofs.Checks.{off, each_map}
 use Rattle.records.proofs.Over.{take_over}
 use Rattle.records.proofs.RoundTrip.{length_mask, reads_back}
-use Rattle.records.proofs.WellFormed.{checked, Wide}
+use Rattle.records.proofs.WellFormed.{checked}
 use Rattle.operations.specs.declared.Narrowed.{Narrowed}
 use Rattle.operations.specs.declared.pair.Pair.{Pair}
 use Rattle.operations.specs.Buffer.{room_refusal, Puts}
@@ -49,6 +50,10 @@ use Rattle.operations.proofs.Pairs.{given_checks, pair_room}
 use Rattle.operations.proofs.Passing.{ready_fits, found_legal}
 
 -- ---- a verdict answered with its record, or 10
+
+-- the rest of a list, from entry n on, as it is lent
+pub lent_rest : (n : ℕ) (xs ys : List Block) → drop n xs ≡ ys → take (length xs - n) (drop n xs) ≡ ys
+lent_rest n xs ys e = take_all (length xs - n) (drop n xs) (omega (arith, length-drop n xs)) ∙ e
 
 -- the normal form zs, made as ys, was put into a buffer
 module _ (ys zs : List Block) (made : ys ≡ zs) (old new : List ℕ) (got : Result ℕ Refusal) (put : Puts (mask_bytes ys) old new got) where
@@ -157,9 +162,9 @@ room_64 m xs r = record { each = each_map (WellFormed m) (WellFormed 64) formed 
     formed : (x : Block) → WellFormed m x → WellFormed 64 x
     formed x f = record { bounds = f.bounds; bytes = f.bytes; letters = λ c k. k.small }
 
--- a book and blocks that are ready, what the passes found, and the states among these that accept
+-- a book and blocks that are ready, of sets of 8 bytes; what the passes found, and the states among these that accept
 module _
-    (bs : List ℕ) (xs : List Block) (p : Pair) (ready : Ready bs xs p) (wide : Each Wide xs)
+    (bs : List ℕ) (xs : List Block) (p : Pair) (ready : Ready bs xs p) (known : p.mask.used < 2 ^ 64)
     (s : ℕ) (ys : List Block) (small : s < 2 ^ 64) (found : Found (book_of bs) xs s ys)
     (r : ℕ) (shared : r ≡ both s p.book.accepting) where
   -- no check refuses them
@@ -171,7 +176,7 @@ module _
   none = rw ready.book (off _ refusal.Foreign accepted ready.letters)
 
   fits : Fits (book_head bs).letters xs
-  fits = ready_fits bs xs p ready wide
+  fits = ready_fits bs xs p ready known
 
   legal : ((r ≡ 0) → some_legal (book_of bs) xs ≡ false) × (¬ (r ≡ 0) → some_legal (book_of bs) xs ≡ true)
   legal = found_legal bs xs p ready s ys small found r shared

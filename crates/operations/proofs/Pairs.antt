@@ -1,12 +1,14 @@
 -- What a book and a mask taken together are, by what each reader answers.
 -- Assumes nothing.
-use Prim.Native.Nat.{ℕ, ◌≤◌}
+use Prim.Native.Nat.{ℕ, ◌+◌, ◌*◌, ◌≤◌}
 use Rattle.std.proofs.Common.{Some, Ok, Err}
 use mathlib.Core.Path.{◌≡◌}
 use mathlib.Core.Bool.{false}
-use mathlib.Core.List.{List}
+use mathlib.Core.List.{List, ◌++◌}
 use native.Mathlib.Omega.{arith}
-use lib.ListN.{length}
+use lib.ListN.{length, take}
+use lib.Seq.{take_at, length-take-le}
+use Rattle.model.specs.declared.Block.{Block}
 use Rattle.model.specs.declared.Refusal.{Refusal}
 use Rattle.model.specs.declared.Refusal.TheVariants.{Foreign}
 use Rattle.model.specs.Refusal.{accepted, refuse, unless}
@@ -16,9 +18,9 @@ use Rattle.records.specs.declared.Book.{Book}
 use Rattle.records.specs.declared.Mask.{Mask}
 use Rattle.records.specs.Bytes.{Bytes}
 use Rattle.records.specs.Book.{book_head, book_refusal, read_book}
-use Rattle.records.specs.Mask.{mask_of, numbers_of, read_mask, foreign}
+use Rattle.records.specs.Mask.{count, mask_of, numbers_of, read_mask, foreign}
 use Rattle.records.specs.WellFormed.{BookRecord, MaskRecord}
-use Rattle.records.proofs.Answers.{unless_ok, unless_err, book_accepted, book_refused}
+use Rattle.records.proofs.Answers.{unless_ok, unless_err, book_accepted, book_refused, mask_holds}
 use Rattle.records.proofs.Checks.{peel}
 use Rattle.records.proofs.Offsets.{blocks_counted}
 use Rattle.records.proofs.Taking.{used_foreign}
@@ -99,3 +101,17 @@ unfolding read_mask
 pair_mask bs ms p h =
     let (none, numbers) = given_accepted (from_record bs ms) p h in
     rw ((given_checks (from_record bs ms) none).1, numbers)
+
+-- a book and a mask that are accepted
+module _ (bs ms : List ℕ) (p : Pair) (read : read_pair bs ms ≡ Ok p) where
+  -- the mask holds its blocks, as many as its numbers say
+  pub pair_holds : (p.mask.blocks ≡ count ms) × (6 + 12 * count ms ≤ length ms)
+  pair_holds = let (counted, long) = mask_holds ms p.mask (pair_mask bs ms p read) in (counted, rw counted at long)
+
+  -- so many are the first entries of a room
+  pub pair_part : (room : List Block) → p.mask.blocks ≤ length room → length (take p.mask.blocks room) ≡ count ms
+  pair_part room h = omega (arith, length-take-le p.mask.blocks room h, pair_holds.0)
+
+  -- into which they are read
+  pub pair_read : (xs rest : List Block) → xs ≡ mask_of ms → take p.mask.blocks (xs ++ rest) ≡ mask_of ms
+  pair_read xs rest e = rw e (take_at (mask_of ms) rest p.mask.blocks (omega (arith, pair_holds.0, blocks_counted ms)))

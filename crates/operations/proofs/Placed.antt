@@ -10,7 +10,8 @@ use mathlib.Core.List.{List}
 use native.Mathlib.Omega.{arith}
 use borrow.Author.Tests.{lt-ltb, le-ltb, ltb-false, eq-eqb, ne_eqb, eqb-false}
 use lib.Dec.{eqb, ltb}
-use lib.ListN.{length}
+use lib.ListN.{length, take}
+use Rattle.std.proofs.lemmas.List.{get_or-take}
 use Rattle.model.specs.declared.Block.{Block}
 use Rattle.model.specs.declared.Refusal.{Refusal}
 use Rattle.model.specs.declared.Refusal.TheVariants.{Missing}
@@ -26,11 +27,9 @@ use Rattle.model.specs.Size.{lower_sum}
 use Rattle.model.proofs.Demand3.{demand_3}
 use Rattle.records.specs.Book.{book_of}
 use Rattle.records.specs.Mask.{count, mask_of, mask_refusal}
-use Rattle.records.specs.Written.{numbered, blocks_of}
 use Rattle.records.proofs.Checks.{on, off, neither}
 use Rattle.records.proofs.Offsets.{blocks_counted}
 use Rattle.records.proofs.WellFormed.{mask_record, checked}
-use Rattle.propagator.proofs.Slices.{entry_at_lem}
 use Rattle.operations.specs.declared.pair.Pair.{Pair}
 use Rattle.operations.specs.Pair.{from_record, pair_refusal, read_pair}
 use Rattle.operations.specs.Passes.{Found}
@@ -152,18 +151,18 @@ module _ (bs ms : List ℕ) (p : Pair) (read : read_pair bs ms ≡ Ok p) where
         let (_, within, lower) = none_missing (mask_of ms) i j there in
         rw (e, (given_accepted (from_record bs ms) p read).1) (entry_within (mask_of ms) (i - 1) j within lower)
 
-  -- what the passes found: states s, and k entries in the slices; r are the states among s that accept
-  module _ (n s k : ℕ) (bases lowers uppers : List ℕ) (small : s < 2 ^ 64) (found : Found (book_of bs) (mask_of ms) s (blocks_of bases lowers uppers k))
+  -- what the passes found: states s, and k entries in the room; r are the states among s that accept
+  module _ (n s k : ℕ) (room : List Block) (small : s < 2 ^ 64) (found : Found (book_of bs) (mask_of ms) s (take k room))
       (r : ℕ) (shared : r ≡ both s p.book.accepting) where
     -- no code is legal
     pub placed_none : r ≡ 0 → block 0 0 0 ≡ entry_at (book_of bs) (mask_of ms) n
     placed_none z = entry_none (book_of bs) (mask_of ms) n ((found_legal bs (mask_of ms) p (pair_ready bs ms p read) s _ small found r shared).0 z)
 
     -- some is
-    pub placed_some : ¬ (r ≡ 0) → n < k → (x : Block) → x ≡ numbered bases lowers uppers n → x ≡ entry_at (book_of bs) (mask_of ms) n
-    placed_some z h x is =
+    pub placed_some : ¬ (r ≡ 0) → n < k → block_at room n ≡ entry_at (book_of bs) (mask_of ms) n
+    placed_some z h =
         let legal = (found_legal bs (mask_of ms) p (pair_ready bs ms p read) s _ small found r shared).1 z in
-        is ∙ sym (entry_at_lem bases lowers uppers k n h) ∙ rw (found.list (rw legal tt)) (entry_some (book_of bs) (mask_of ms) n legal)
+        sym (get_or-take k room n (block 0 0 0) h) ∙ rw (found.list (rw legal tt)) (entry_some (book_of bs) (mask_of ms) n legal)
 
 -- the refusal number at the host is that of the checks
 pub place_refusal_number : (bs ms : List ℕ) (i j : ℕ) → (place_numbers (placed bs ms i j)).refusal ≡ option_map_or number (place_refusal bs ms i j) 0

@@ -1,13 +1,15 @@
 -- What tidy promises, from what its steps give.
 -- Assumes nothing.
-use Prim.Native.Nat.{ℕ, ◌+◌, ◌*◌, ◌≤◌}
-use Rattle.std.proofs.Common.{Option, None, Some, Result, Ok, Err}
+use Prim.Native.Nat.{ℕ, ◌+◌, ◌-◌, ◌*◌, ◌≤◌, ◌<◌}
+use Rattle.std.proofs.Common.{add-zero, Option, None, Some, Result, Ok, Err}
 use Rattle.std.specs.Option.{option_map_or}
-use mathlib.Core.Path.{◌≡◌, refl}
-use mathlib.Core.List.{List}
+use mathlib.Core.Path.{◌≡◌, refl, ap, sym, ◌∙◌}
+use mathlib.Core.List.{List, [], ◌∷◌, ◌++◌}
 use native.Mathlib.Omega.{arith}
 use borrow.Author.Tests.{le-ltb}
-use lib.ListN.{length}
+use lib.ListN.{length, take, drop, length-drop}
+use lib.Seq.{get_or-drop, drop-drop}
+use Rattle.model.specs.DashedString.{block, block_at}
 use Rattle.model.specs.declared.Block.{Block}
 use Rattle.model.specs.declared.Refusal.{Refusal}
 use Rattle.model.specs.declared.Refusal.TheVariants as refusal
@@ -17,34 +19,44 @@ use Rattle.model.specs.Size.{Room}
 use Rattle.model.proofs.NormalForm.{normal_spells, normal_reduced}
 use Rattle.model.proofs.Room.{normal_shorter, normal_fits}
 use Rattle.records.specs.declared.Mask.{Mask}
-use Rattle.records.specs.Bytes.{Bytes}
+use Rattle.records.specs.Bytes.{Bytes, over}
 use Rattle.records.specs.Mask.{count, mask_of, mask_refusal, read_mask}
-use Rattle.records.specs.Written.{mask_bytes}
-use Rattle.records.proofs.Answers.{mask_accepted, mask_refused, mask_holds}
+use Rattle.records.specs.Written.{block_bytes, blocks_bytes, head_bytes}
+use Rattle.records.proofs.Answers.{mask_accepted, mask_refused}
 use Rattle.records.proofs.Checks.{off}
 use Rattle.records.proofs.Offsets.{blocks_counted}
 use Rattle.records.proofs.Over.{take_over}
 use Rattle.records.proofs.RoundTrip.{length_mask, reads_back}
 use Rattle.records.proofs.WellFormed.{mask_record, record_fits_64}
 use Rattle.operations.specs.Buffer.{room_refusal, Puts}
+use Rattle.operations.proofs.Putting.{put_short, put_written}
+use Rattle.records.proofs.Stores.{mask_stored, stored_more, stored_all}
+use Rattle.std.proofs.lemmas.List.Edits.{sets}
 use Rattle.operations.specs.Tidy.{tidy_record, tidy_refusal, tidied, tidy_buffer, tidy_numbers, Rewrites, Tidies}
 
 -- an accepted mask holds its blocks, which are few and have room
 pub mask_blocks : (ms : List ℕ) (x : Mask) → Bytes ms → read_mask ms ≡ Ok x
-    → ((x.blocks ≡ count ms) × (6 + 12 * x.blocks ≤ length ms)) × ((x.blocks ≤ 1024) × Room 64 (mask_of ms))
+    → ((count ms ≤ 1024) × (6 + 12 * count ms ≤ length ms)) × Room 64 (mask_of ms)
 mask_blocks ms x bytes h =
-    let (none, head) = mask_accepted ms x h in
-    (mask_holds ms x h, (rw (head, blocks_counted ms) (mask_record ms none).few, (record_fits_64 ms bytes none).room))
+    let (none, _) = mask_accepted ms x h in
+    let r = mask_record ms none in
+    ((r.few, omega (arith, r.size)), (record_fits_64 ms bytes none).room)
 
--- a copy of the blocks has room where they have
-pub copied_room : (xs ys : List Block) → xs ≡ ys → Room 64 ys → Room 64 xs
-copied_room xs ys e r = rw e r
+-- n blocks of the normal form, and a buffer
+module _ (ms : List ℕ) (n : ℕ) (size : n ≡ length (normal (mask_of ms))) (old : List ℕ) where
+  -- the buffer is too short for them
+  pub tidied_short : length old < 6 + 12 * n → Puts (tidy_record ms) old old (Err refusal.Room)
+  unfolding tidy_record
+  tidied_short h = put_short (normal (mask_of ms)) old (rw size at h)
 
--- the normal form of a copy of the blocks is put: tidy's record is
-pub put_tidied : (ms old new : List ℕ) (a : Result ℕ Refusal) (xs ys : List Block) → xs ≡ mask_of ms → ys ≡ normal xs → Puts (mask_bytes ys) old new a
-    → Puts (tidy_record ms) old new a
-unfolding tidy_record
-put_tidied ms old new a xs ys e f put = rw (f, e) at put
+  -- it has room for them: the head is written, then the blocks behind it
+  pub tidied_written : (head part : List ℕ) → 6 + 12 * n ≤ length old → head ≡ sets old 0 (head_bytes n)
+      → part ≡ over (blocks_bytes (normal (mask_of ms))) (take (length head - 6) (drop 6 head))
+      → Puts (tidy_record ms) old (take 6 head ++ (part ++ drop (length head - 6) (drop 6 head))) (Ok (6 + 12 * n))
+  unfolding tidy_record
+  tidied_written head part h e w =
+      let fits = rw size at h in
+      put_written (normal (mask_of ms)) old _ _ fits (rw size) (mask_stored (normal (mask_of ms)) old head part fits (rw size at e) w)
 
 -- the mask is refused
 pub tidy_refused : (ms old : List ℕ) (r : Refusal) → read_mask ms ≡ Err r → Tidies ms old old (Err r)
@@ -94,3 +106,17 @@ tidy_suffices ms room none h =
     let size = length_mask (normal (mask_of ms)) in
     let fits : length (tidy_record ms) ≤ room = omega (arith, size, normal_shorter (mask_of ms), blocks_counted ms, (mask_record ms none).size) in
     rw none (off _ refusal.Room accepted (le-ltb room (length (tidy_record ms)) fits))
+
+-- zs, of which the first n are stored from byte 0 on
+module _ (zs : List Block) (old out : List ℕ) (n : ℕ) (stored : out ≡ sets old 0 (blocks_bytes (take n zs))) where
+  -- and x, the first of the others, behind them
+  pub joined_more : (x : Block) (rest : List Block) (next : List ℕ) → drop n zs ≡ x ∷ rest → next ≡ sets out (12 * n) (block_bytes x)
+      → (next ≡ sets old 0 (blocks_bytes (take (n + 1) zs))) × (drop (n + 1) zs ≡ rest)
+  joined_more x rest next is e =
+      let within : n < length zs = omega (arith, ap length is, length-drop n zs) in
+      let here : block_at zs n ≡ x = sym (rw add-zero at (get_or-drop n zs 0 (block 0 0 0))) ∙ ap (λ xs. block_at xs 0) is in
+      (stored_more zs old out next n within stored (rw here e), sym (drop-drop 1 n zs) ∙ ap (drop 1) is)
+
+  -- or there are no others
+  pub joined_all : drop n zs ≡ [] → 12 * length zs ≤ length old → out ≡ over (blocks_bytes zs) old
+  joined_all none fits = stored_all zs old out n fits (omega (arith, ap length none, length-drop n zs)) stored

@@ -19,7 +19,6 @@ use Rattle.model.specs.Membership.{spells, accepts}
 use Rattle.model.proofs.Membership.{spells_exact, accepts_exact}
 use Rattle.records.specs.Book.{moves_of, automaton_of, book_of}
 use Rattle.records.specs.Mask.{count, mask_of}
-use Rattle.records.proofs.Answers.{mask_holds}
 use Rattle.records.proofs.Checks.{on, off}
 use Rattle.records.proofs.Over.{part_rest}
 use Rattle.membership.specs.Word.{strange, Letters}
@@ -27,7 +26,7 @@ use Rattle.membership.proofs.Strange.{none_strange}
 use Rattle.operations.specs.declared.pair.Pair.{Pair}
 use Rattle.operations.specs.Pair.{from_record, pair_refusal, read_pair}
 use Rattle.operations.specs.Try.{try_refusal, tried, try_numbers, yes, Tries}
-use Rattle.operations.proofs.Pairs.{given_refused, given_accepted, pair_records, pair_mask}
+use Rattle.operations.proofs.Pairs.{given_refused, given_accepted, pair_records, pair_holds}
 
 -- a refusal
 refusing : (bs ms w : List ℕ) (r : Refusal) → try_refusal bs ms w ≡ Some r → Tries bs ms w (Err r)
@@ -86,12 +85,12 @@ module _ (bs ms w : List ℕ) (p : Pair) (read : read_pair bs ms ≡ Ok p) where
 module _ (bs ms w : List ℕ) (p : Pair) (read : read_pair bs ms ≡ Ok p) where
   -- the mask holds its blocks, and the code's letters can be in its sets
   pub mask_question : length w ≤ 1024 → strange p.book.letters w ≡ false
-      → ((p.mask.blocks ≡ count ms) × (6 + 12 * p.mask.blocks ≤ length ms)) × ((length w ≤ 1024) × Letters 64 w)
+      → (6 + 12 * count ms ≤ length ms) × ((length w ≤ 1024) × Letters 64 w)
   mask_question h s =
       let (none, head) = given_accepted (from_record bs ms) p read in
       let few = (pair_records bs ms none).0.sound.letters in
       let letters = (none_strange p.book.letters w).0 s in
-      (mask_holds ms p.mask (pair_mask bs ms p read), (h, λ i l. omega (arith, rw head at (letters i l), few)))
+      ((pair_holds bs ms p read).1, (h, λ i l. omega (arith, rw head at (letters i l), few)))
 
   -- the book's start is one of its states, its moves stand behind its head, and the code's letters are its letters
   pub book_question : strange p.book.letters w ≡ false

@@ -6,13 +6,11 @@ use Rattle.model.specs.Passes.{finals, narrowed_list}
 use Rattle.model.specs.Size.{lower_sum}
 use Rattle.model.specs.Verdict.{some_legal}
 use Rattle.records.specs.declared.Mask.{Mask}
-use Rattle.records.specs.Written.{Enough}
 use Rattle.propagator.specs.declared.Passed.{Passed}
 
--- room for an entry for each place that a mask can have and for each block, and for what the passes remember on their way
-abbrev pub Lent : Mask → List ℕ → List ℕ → List ℕ → List ℕ → List ℕ → List ℕ → Type 0
-Lent m bases lowers uppers firsts sets known =
-    Enough bases lowers uppers (m.uppers + m.blocks) × (m.blocks ≤ length firsts) × (m.uppers ≤ length sets) × (length known ≡ 133)
+-- room for an entry for each place that a mask can have and for each block, and for the sets that the passes store on their way
+abbrev pub Lent : Mask → List Block → List ℕ → Type 0
+Lent m blocks sets = (m.uppers + m.blocks ≤ length blocks) × (m.uppers ≤ length sets)
 
 -- the states possible behind the last block, and, where some code is legal, the narrowed list
 pub record Found (b : Dfa) (xs : List Block) (s : ℕ) (ys : List Block) : Type 0 where

@@ -8,14 +8,13 @@ ghost use Rattle.operations.specs.Tidy.{Tidies};
 ghost use Rattle.operations.specs.Try.{Tries};
 
 mod answer;
-mod listed;
+mod joined;
 mod narrowing;
 mod pair;
 mod passes;
 mod placing;
 
 use answer::write_tidied;
-use listed::unpack;
 use model::{Block, Refusal, Verdict};
 use narrowing::{narrow_blocks, narrow_sized};
 use pair::{read_pair, with_mask};
@@ -56,37 +55,20 @@ pub fn narrow_list(book: &[u8], blocks: &[Block], out: &mut [u8]) -> Result<Narr
     if 1024 < count {
         return Err(Refusal::OutOfRange);
     }
-    let mut bases = [0u64; 2048];
-    let mut lowers = [0u16; 2048];
-    let mut uppers = [0u16; 2048];
-    unpack(blocks, &mut bases, &mut lowers, &mut uppers);
-    let mask = records::check_blocks(&bases, &lowers, &uppers, count)?;
+    let mask = records::check_blocks(blocks)?;
     let pair = with_mask(head, mask)?;
-    let mut firsts = [0u64; 1024];
+    let mut room = [Block::EMPTY; 2048];
     let mut sets = [0u64; 1024];
-    let mut known = [0u64; 133];
-    narrow_blocks(
-        pair,
-        book,
-        &mut bases,
-        &mut lowers,
-        &mut uppers,
-        &mut firsts,
-        &mut sets,
-        &mut known,
-        out,
-    )
+    room[..count].copy_from_slice(blocks);
+    narrow_blocks(pair, book, &mut room, &mut sets, out)
 }
 
 // Tidy: writes the normal form of a mask over the first bytes of `out`, and returns how many bytes that is. Mask checks, then 10.
 pub fn tidy(mask: &[u8], out: &mut [u8]) -> Result<u32, Refusal>
     ensures { Tidies mask.now out.old out.new result }
 {
-    let head = records::read_mask(mask)?;
-    let mut bases = [0u64; 1024];
-    let mut lowers = [0u16; 1024];
-    let mut uppers = [0u16; 1024];
-    write_tidied(mask, head.blocks, &mut bases, &mut lowers, &mut uppers, out)
+    records::read_mask(mask)?;
+    write_tidied(mask, out)
 }
 
 // Place: the set and bounds of a block, from 1, and a place, in the narrowed list before dropping or joining; place 0 is the
@@ -116,7 +98,7 @@ pub fn try_word(book: &[u8], mask: &[u8], word: &[u8]) -> Result<Tried, Refusal>
         return Err(Refusal::Strange);
     }
     Ok(Tried {
-        mask: membership::spells(mask, pair.mask.blocks, word),
+        mask: membership::spells(mask, word),
         book: membership::accepts(pair.book, &book[15..], word),
     })
 }

@@ -7,11 +7,10 @@ ghost use Rattle.model.specs.Size.{lower_sum};
 ghost use Rattle.records.specs.Book.{book_of};
 ghost use Rattle.records.specs.Mask.{count, mask_of, mask_refusal};
 ghost use Rattle.operations.specs.Pair.{read_pair};
-ghost use Rattle.operations.specs.Passes.{Lent};
 ghost use Rattle.operations.specs.Placed.{missing as absent, entry_at};
 
 use crate::pair::Pair;
-use crate::passes::pass_mask;
+use crate::passes::pass_blocks;
 use model::Block;
 
 // Check 11: a block number of 0 or above the number of blocks, or a place above the block's lower bound.
@@ -27,11 +26,10 @@ fn first_entry(mask: &[u8], block: usize) -> usize
     requires { (mask_refusal mask.now ≡ accepted) × (block < count mask.now) }
     ensures { result ≡ begins (mask_of mask.now) block }
 {
-    let mut entry = 0;
-    for i in 0..block {
-        entry += records::read_block(mask, i).lower as usize + 1;
-    }
-    entry
+    records::blocks(mask)
+        .take(block)
+        .map(|x| x.lower as usize + 1)
+        .sum()
 }
 
 // The number of the entry of a block, from 0, and a place; place 0 is the optional part, behind the places.
@@ -60,7 +58,7 @@ pub(crate) fn place_entry(pair: Pair, book: &[u8], mask: &[u8], block: usize, pl
     place_sized::<1024, 2048>(pair, book, mask, entry)
 }
 
-// An entry of the narrowed list, in room for at most MOST blocks whose upper bounds sum to at most MOST; ROOM is twice as much.
+// An entry of the narrowed list, or the empty block where no code is legal, in room for at most MOST blocks whose upper bounds sum to at most MOST; ROOM is twice as much.
 fn place_sized<const MOST: usize, const ROOM: usize>(
     pair: Pair,
     book: &[u8],
@@ -72,51 +70,12 @@ fn place_sized<const MOST: usize, const ROOM: usize>(
     requires room { (pair.mask.blocks ≤ MOST) × (pair.mask.uppers ≤ MOST) × (MOST + MOST ≤ ROOM) × (ROOM ≤ 2048) }
     ensures { result ≡ entry_at (book_of book.now) (mask_of mask.now) entry }
 {
-    let mut bases = [0u64; ROOM];
-    let mut lowers = [0u16; ROOM];
-    let mut uppers = [0u16; ROOM];
-    let mut firsts = [0u64; MOST];
+    let mut blocks = [Block::EMPTY; ROOM];
     let mut sets = [0u64; MOST];
-    let mut known = [0u64; 133];
-    place_in(
-        pair,
-        book,
-        mask,
-        entry,
-        &mut bases,
-        &mut lowers,
-        &mut uppers,
-        &mut firsts,
-        &mut sets,
-        &mut known,
-    )
-}
-
-// An entry of the narrowed list, or the empty block where no code is legal, in lent room.
-fn place_in(
-    pair: Pair,
-    book: &[u8],
-    mask: &[u8],
-    entry: usize,
-    bases: &mut [u64],
-    lowers: &mut [u16],
-    uppers: &mut [u16],
-    firsts: &mut [u64],
-    sets: &mut [u64],
-    known: &mut [u64],
-) -> Block
-    requires mask_value { read_pair book.now mask.now ≡ Ok pair }
-    requires bound { entry < lower_sum (mask_of mask.now) + pair.mask.blocks }
-    requires lent { Lent pair.mask bases.old lowers.old uppers.old firsts.old sets.old known.old }
-    ensures { result ≡ entry_at (book_of book.now) (mask_of mask.now) entry }
-{
-    let passed = pass_mask(pair, book, mask, bases, lowers, uppers, firsts, sets, known);
+    records::read_blocks(mask, &mut blocks[..pair.mask.blocks]);
+    let passed = pass_blocks(pair, book, &mut blocks, &mut sets);
     if bitset::intersection(passed.states, pair.book.accepting) == 0 {
-        return Block {
-            base: 0,
-            lower: 0,
-            upper: 0,
-        };
+        return Block::EMPTY;
     }
-    normal_form::block_at(bases, lowers, uppers, entry)
+    blocks[entry]
 }

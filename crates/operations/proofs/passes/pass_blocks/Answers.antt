@@ -1,7 +1,6 @@
 -- `operations::passes::pass_blocks` meets its contract.
 use native.Mathlib.Omega.{arith}
-use Rattle.records.proofs.WellFormed.{slices_wide}
-use Rattle.operations.proofs.Passing.{book_long, book_moves, blocks_room, letters_few, passes_found}
+use Rattle.operations.proofs.Passing.{book_long, book_moves, blocks_counted, blocks_room, letters_few, sets_few, passes_found}
 use Rattle.operations.proofs.passes.pass_blocks.Goals as goal
 
 pub slice_bounds-pass-count : goal.slice_bounds-pass-count
@@ -10,18 +9,23 @@ slice_bounds-pass-count c = omega (arith, book_long _ _ _ c.requires.ready)
 pub slice_bounds-pass-start : goal.slice_bounds-pass-start
 slice_bounds-pass-start c = omega (arith, book_long _ _ _ c.requires.ready)
 
-pub pass-requires : goal.pass-requires
-pass-requires c =
-    let a = c.args in
-    let few = letters_few _ _ _ c.requires.ready in
-    let wide = slices_wide a.bases.now a.lowers.now a.uppers.now (λ i. omega (arith, c.slice_known-1.given i)) a.pair.mask.blocks in
-    let room = blocks_room _ _ _ c.requires.ready wide in
-    record { states_bound = book_moves _ _ _ c.requires.ready; room = room; scratch = (omega (arith, few), omega (arith, few), omega arith, omega arith) }
+pub pass-requires-clause-states_bound : goal.pass-requires-clause-states_bound
+pass-requires-clause-states_bound c = book_moves _ _ _ c.requires.ready
+
+pub pass-requires-clause-room : goal.pass-requires-clause-room
+pass-requires-clause-room c = blocks_room _ _ _ c.requires.ready (omega arith)
+
+pub pass-requires-clause-blocks_fit : goal.pass-requires-clause-blocks_fit
+pass-requires-clause-blocks_fit c = omega (arith, letters_few _ _ _ c.requires.ready)
+
+pub pass-requires-clause-sets_fit : goal.pass-requires-clause-sets_fit
+pass-requires-clause-sets_fit c = omega (arith, sets_few _ _ _ c.requires.ready)
 
 pub returns : goal.returns
 returns c =
+    let counted = blocks_counted _ _ _ c.requires.ready in
     record {
-      size = c.pass.ensures.entries;
-      few = omega (arith, c.pass.ensures.entries, letters_few _ _ _ c.requires.ready);
+      size = omega (arith, c.pass.ensures.entries, counted);
+      few = omega (arith, c.pass.ensures.entries, counted, letters_few _ _ _ c.requires.ready);
       found = passes_found _ _ _ c.requires.ready _ _ c.pass.ensures.states c.pass.ensures.list;
     }
