@@ -6,12 +6,11 @@ use mathlib.Core.Bool.{Bool}
 use mathlib.Core.List.{List, ◌++◌, append-nil, append_assoc}
 use native.Mathlib.Omega.{arith}
 use lib.ListN.{length, take, drop, length-append, length-take, length-drop}
-use lib.Seq.{drop-drop}
+use lib.Seq.{drop-drop, length-take-le, take-append-add, take-append-le}
 use Rattle.records.proofs.Over.{part_rest}
 use Rattle.lines.specs.declared.Pause.TheVariants.{Full, More, Done}
 use Rattle.lines.specs.declared.masks.Step.{Step}
 use Rattle.lines.specs.declared.masks.Step.TheVariants.{Passed, Last, Wanting}
-use Rattle.lines.specs.Text.{Appends}
 use Rattle.lines.specs.Output.{mask_lines, lines_from}
 use Rattle.lines.specs.Parts.{Later, Advances, Steps}
 
@@ -26,6 +25,24 @@ pub running_starts : (bs input : List ℕ) (ended : Bool) (first : ℕ) (out : L
     → Running bs input ended first out 0 0 first
 running_starts bs input ended first out =
     record { within = omega arith; filled = omega arith; lines = λ later h. refl }
+
+-- a text put behind the first bytes of a buffer: r bytes are filled then
+pub record Appends (text old : List ℕ) (at : ℕ) (new : List ℕ) (r : ℕ) : Type 0 where
+  pub size : r ≡ at + length text
+  pub filled : take r new ≡ take at old ++ text
+
+-- a text copied to the bytes from at on, as these are lent and come back
+pub put_behind : (text old part behind : List ℕ) (at r : ℕ) → at ≤ length old → (r ≡ length text) × (take r part ≡ text)
+    → Appends text old at (take at old ++ (part ++ behind)) (at + r)
+put_behind text old part behind at r h (e, f) = record { size = rw e; filled = filled }
+  where
+    room : r ≤ length part
+    room = omega (arith, e, ap length f, length-take r part)
+
+    filled : take (at + r) (take at old ++ (part ++ behind)) ≡ take at old ++ text
+    filled =
+        rw (length-take-le at old h) at (take-append-add (take at old) (part ++ behind) r)
+        ∙ ap (λ l. take at old ++ l) (take-append-le r part behind room ∙ f)
 
 -- text that was put lies within the buffer
 pub put_within : (text old : List ℕ) (at : ℕ) (new : List ℕ) (r : ℕ) → Appends text old at new r → at ≤ length old → r ≤ length new

@@ -1,6 +1,5 @@
 // The lines of the masks that a part of the input holds.
 ghost use Rattle.std.specs.Prelude.{◌+◌, ◌≤◌, length};
-ghost use Rattle.lines.specs.Text.{Appends};
 ghost use Rattle.lines.specs.Parts.{Advances, Steps};
 
 use crate::answer::mask_line;
@@ -40,17 +39,6 @@ pub(crate) fn next_line(book: &[u8], rest: Part, number: u64, answer: &mut [u8])
     }
 }
 
-// Puts a line behind the first `at` bytes of `out`, and returns how many are filled then.
-fn put(line: &Line, out: &mut [u8], at: usize) -> usize
-    requires { at + 92 ≤ length out.old }
-    ensures { Appends line.now out.old at out.new result }
-{
-    let text = line.as_slice();
-    let end = at + text.len();
-    out[at..end].copy_from_slice(text);
-    end
-}
-
 // Puts the lines of the masks of `input`, from number `first` on, at the start of `out`, as far as they go: up to a buffer
 // that has no room for another line, an input of which more is wanted, or the end. `answer` is room for narrow's answer.
 pub fn run(book: &[u8], input: Part, first: u64, answer: &mut [u8], out: &mut [u8]) -> Progress
@@ -75,11 +63,11 @@ pub fn run(book: &[u8], input: Part, first: u64, answer: &mut [u8], out: &mut [u
         match next_line(book, rest, progress.number, answer) {
             Step::Passed { taken, line } => {
                 progress.taken += taken;
-                progress.size = put(&line, out, progress.size);
+                progress.size += line.copy_to(&mut out[progress.size..]);
                 progress.number += 1;
             }
             Step::Last(line) => {
-                progress.size = put(&line, out, progress.size);
+                progress.size += line.copy_to(&mut out[progress.size..]);
                 progress.pause = Pause::Done;
                 return progress;
             }

@@ -1,5 +1,5 @@
 // The text of a line, in a buffer of its own. No line is longer than 92 bytes.
-ghost use Rattle.std.specs.Prelude.{◌≡◌, ◌++◌, ◌+◌, ◌≤◌, [], length};
+ghost use Rattle.std.specs.Prelude.{◌≡◌, ◌++◌, ◌+◌, ◌≤◌, [], length, take};
 ghost use Rattle.lines.specs.Text.{decimal};
 ghost use Rattle.model.specs.Verdict.{word};
 ghost use Rattle.lines.specs.Line.{spaced, numbers, line, refused_line, book_line};
@@ -43,6 +43,16 @@ impl Line {
         ensures fits { length result.now ≤ 92 }
     {
         &self.bytes[..self.size]
+    }
+
+    // Copies its bytes to the start of `out`, and returns how many they are.
+    pub(crate) fn copy_to(&self, out: &mut [u8]) -> usize
+        requires { 92 ≤ length out.old }
+        ensures { (result ≡ length self.now) × (take result out.new ≡ self.now) }
+    {
+        let text = self.as_slice();
+        out[..text.len()].copy_from_slice(text);
+        text.len()
     }
 
     // Puts bytes behind it.
