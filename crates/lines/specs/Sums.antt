@@ -15,7 +15,8 @@ pub record Blocks (rs : List ℕ) (k : ℕ) : Type 0 where
 abbrev pub Recorded : List ℕ → Type 0
 Recorded rs = (length rs ≡ 0) ⊎ Blocks rs (count rs)
 
--- both sums of the bounds
+-- how many blocks, and both sums of the bounds
 pub record Sum (xs : List Block) (r : Sums) : Type 0 where
+  pub blocks : r.blocks ≡ length xs
   pub lowers : r.lowers ≡ lower_sum xs
   pub uppers : r.uppers ≡ uppers xs

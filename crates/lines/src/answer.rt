@@ -1,6 +1,6 @@
 // The line of a mask, from narrow's answer.
 ghost use Rattle.std.specs.Prelude.{◌≡◌, ◌≤◌, length};
-ghost use Rattle.records.specs.Mask.{mask_of};
+ghost use Rattle.records.specs.Mask.{count, mask_of};
 ghost use Rattle.lines.specs.Line.{verdict_line, mask_line};
 ghost use Rattle.lines.specs.Sums.{Blocks, Recorded, Sum};
 
@@ -8,26 +8,30 @@ use crate::text::{Line, refused_line, verdict_line};
 use model::Verdict;
 use operations::Narrowed;
 
-// The sum of the lower and the sum of the upper bounds.
+// How many blocks a mask has, and the sums of their lower and of their upper bounds.
 #[derive(Clone, Copy)]
 pub(crate) struct Sums {
+    pub blocks: u64,
     pub lowers: u64,
     pub uppers: u64,
 }
 
-// The sums of the bounds of a mask's blocks.
-fn sum_bounds(written: &[u8], blocks: usize) -> Sums
-    requires { Blocks written.now blocks }
+// The sums of a mask's blocks.
+fn sums_of(written: &[u8]) -> Sums
+    requires { Blocks written.now (count written.now) }
     ensures { Sum (mask_of written.now) result }
 {
-    let mut lowers = 0;
-    let mut uppers = 0;
-    for i in 0..blocks {
-        let block = records::read_block(written, i);
-        lowers += block.lower as u64;
-        uppers += block.upper as u64;
+    let mut sums = Sums {
+        blocks: 0,
+        lowers: 0,
+        uppers: 0,
+    };
+    for block in records::blocks(written) {
+        sums.blocks += 1;
+        sums.lowers += block.lower as u64;
+        sums.uppers += block.upper as u64;
     }
-    Sums { lowers, uppers }
+    sums
 }
 
 // The line of a mask whose answer is a verdict and the record written, which is empty for none.
@@ -39,9 +43,12 @@ fn answer_line(number: u64, verdict: Verdict, written: &[u8]) -> Line
     if written.is_empty() {
         return verdict_line(number, verdict, 0, 0, 0);
     }
-    let blocks = (written.len() - 6) / 12;
-    let Sums { lowers, uppers } = sum_bounds(written, blocks);
-    verdict_line(number, verdict, blocks as u64, lowers, uppers)
+    let Sums {
+        blocks,
+        lowers,
+        uppers,
+    } = sums_of(written);
+    verdict_line(number, verdict, blocks, lowers, uppers)
 }
 
 // The line of a mask. `answer` is room for narrow's answer.
