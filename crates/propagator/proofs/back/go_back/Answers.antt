@@ -21,12 +21,6 @@ overflow_sub-at c =
     let block = returning_taken _ _ _ _ _ _ _ _ _ _ c.loop-i.invariant.returning (c.loop-i.i - 1) (omega arith) (omega arith) _ c.requires.room in
     omega (arith, block.begins)
 
-pub offset_bounds-blocks-at : goal.offset_bounds-blocks-at
-offset_bounds-blocks-at c = omega (arith, c.loop-i.invariant.room, c.well_formed)
-
-pub slice_bounds-narrow_block-end : goal.slice_bounds-narrow_block-end
-slice_bounds-narrow_block-end c = omega (arith, c.loop-i.invariant.room)
-
 pub narrow_block-kept-requires : goal.narrow_block-kept-requires
 narrow_block-kept-requires c =
     let block = returning_taken _ _ _ _ _ _ _ _ _ _ c.loop-i.invariant.returning (c.loop-i.i - 1) (omega arith) (omega arith) _ c.requires.room in
