@@ -8,7 +8,7 @@ use borrow.Rule.Slice.PartMut.{put_mid}
 use lib.Bits.{and_lt}
 use lib.ListN.{length, get_or, set, take, drop, replicate}
 use lib.Seq.{take-suc, take-take, drop-drop, get_or-take}
-use Rattle.std.proofs.lemmas.List.{drop_all, take_all, drop_at, drop-set, length-take}
+use Rattle.std.proofs.lemmas.List.{drop_all, take_all, drop_at, drop-set, length-take, length-drop}
 use Rattle.std.proofs.lemmas.Slice.{take-put_mid_below}
 use Rattle.model.specs.declared.Block.{Block}
 use Rattle.model.specs.DashedString.{block, block_at, Each, Bounded}
@@ -71,6 +71,10 @@ module _ (t : Table) (x : Block) (Q : ℕ) (row : List ℕ) (h : Bounded x) (sto
 
 -- ---- all blocks
 
+-- the n elements before element at are lent
+pub part_long : (xs : List Block) (at n : ℕ) → n ≤ at → at ≤ length xs → length (take (at - (at - n)) (drop (at - n) xs)) ≡ n
+part_long xs at n h l = omega (arith, length-take (at - (at - n)) (drop (at - n) xs), length-drop (at - n) xs)
+
 -- what each block has, the first of them have
 each_take : (P : Block → Type 0) (xs : List Block) → Each P xs → (i : ℕ) → Each P (take i xs)
 each_take P xs e zero = tt
@@ -79,6 +83,7 @@ each_take P (x ∷ xs) e (suc i) = (e.0, each_take P xs e.1 i)
 
 -- the first i blocks are what they were, the entries of the others stand behind, and the row has the sets of the first i
 pub record Returning (t : Table) (Q E : ℕ) (xs blocks : List Block) (first : ℕ) (row : List ℕ) (kept at i : ℕ) : Type 0 where
+  pub few : i ≤ length xs
   pub before : take i blocks ≡ take i xs
   pub start : first ≡ Q
   pub sets : row ≡ stored t Q (take i xs)
@@ -92,15 +97,14 @@ pub record Taken (m before : ℕ) (row : List ℕ) (at k : ℕ) (x : Block) : Ty
   pub begins : at ≡ before + k + (x.lower + 1)
   pub fits : sets_of x ≤ length row
 
-module _ (t : Table) (Q E n : ℕ) (xs : List Block) (size : length xs ≡ n) where
-  all : take n xs ≡ xs
-  all = take_all n xs (omega (arith, size))
-
+module _ (t : Table) (Q E : ℕ) (xs : List Block) where
   -- no block is taken yet
-  pub returning_starts : (blocks : List Block) (row : List ℕ) → take n blocks ≡ xs → row ≡ stored t Q xs → length blocks ≡ lower_sum xs + n
-      → Inside E (final t Q (segments xs)) → Returning t Q E xs blocks Q row E (length blocks) n
-  returning_starts blocks row e f g h =
+  pub returning_starts : (n : ℕ) → length xs ≡ n → (blocks : List Block) (row : List ℕ) → take n blocks ≡ xs → row ≡ stored t Q xs
+      → length blocks ≡ lower_sum xs + n → Inside E (final t Q (segments xs)) → Returning t Q E xs blocks Q row E (length blocks) n
+  returning_starts n size blocks row e f g h =
+      let all : take n xs ≡ xs = take_all n xs (omega (arith, size)) in
       record {
+        few = omega (arith, size);
         before = e ∙ sym all;
         start = refl;
         sets = rw all f;
@@ -119,7 +123,7 @@ module _ (t : Table) (Q E n : ℕ) (xs : List Block) (size : length xs ≡ n) wh
         sym (rw start at old.made)
 
     -- the next block, i - 1 = k
-    module _ (k : ℕ) (next : i ≡ suc k) (few : i ≤ n) (long : k < length blocks) (m : ℕ) (room : Room m xs) where
+    module _ (k : ℕ) (next : i ≡ suc k) (long : k < length blocks) (m : ℕ) (room : Room m xs) where
       abbrev x : Block
       x = block_at blocks k
 
@@ -140,14 +144,14 @@ module _ (t : Table) (Q E n : ℕ) (xs : List Block) (size : length xs ≡ n) wh
           ∙ get_or-take (suc k) xs k (block 0 0 0) (omega arith)
 
       formed : WellFormed m x
-      formed = rw is (each_get (WellFormed m) xs room.each k (block 0 0 0) (omega (arith, size)))
+      formed = rw is (each_get (WellFormed m) xs room.each k (block 0 0 0) (omega (arith, old.few)))
 
       each : Each Bounded ys
       each = each_take Bounded xs (each_map (WellFormed m) Bounded (λ y f. f.bounds) xs room.each) k
 
       -- the first i blocks are those before it, and it
       split : take (suc k) xs ≡ ys ++ x ∷ []
-      split = take-suc xs k (block 0 0 0) (omega (arith, size)) ∙ ap (λ y. ys ++ y ∷ []) (sym is)
+      split = take-suc xs k (block 0 0 0) (omega (arith, old.few)) ∙ ap (λ y. ys ++ y ∷ []) (sym is)
 
       sets : row ≡ stored t Q (ys ++ x ∷ [])
       sets = old.sets ∙ ap (stored t Q) split
@@ -187,6 +191,7 @@ module _ (t : Table) (Q E n : ℕ) (xs : List Block) (size : length xs ≡ n) wh
             let g' : r ≡ kept_to t kept P (segments_of x) = rw from at g in
             let made' : part ≡ entries_to t kept P (segments_of x) = rw from at made in
             record {
+              few = omega (arith, old.few);
               before =
                   take-put_mid_below at' (at - at') blocks part k (omega (arith, begins)) room'
                   ∙ sym (take-take k (suc k) blocks (omega arith))

@@ -1,13 +1,9 @@
 -- `propagator::letters::Letters::narrow_places` meets its contract.
-use mathlib.Core.Path.{refl}
 use native.Mathlib.Omega.{arith}
 use Rattle.std.proofs.lemmas.Grind.{common_steps}
-use Rattle.propagator.proofs.Placing.{becomes_more, placing_starts, placing_more, placing_ends}
+use Rattle.propagator.proofs.Placing.{becomes_more, placing_more, placing_ends}
 use Rattle.propagator.proofs.Stored.{places_long}
 use Rattle.propagator.proofs.letters.Letters.narrow_places.Goals as goal
-
-pub loop-j-init : goal.loop-j-init
-loop-j-init c = record { last = c.requires.becomes; placing = placing_starts _ _ _ _ _ _ refl }
 
 pub set_before-before-requires : goal.set_before-before-requires
 set_before-before-requires c = places_long _ _ _ _ _ c.requires.places _ (omega arith)
