@@ -12,19 +12,20 @@ pub fn mask(out: &mut impl Write, bytes: &[u8]) -> io::Result<()> {
     match records::read_mask(bytes) {
         Err(_) => out.write_all(b"unreadable answer"),
         Ok(mask) if mask.blocks == 0 => out.write_all(b"no blocks"),
-        Ok(mask) => blocks(out, bytes, mask.blocks),
+        Ok(_) => blocks(out, bytes),
     }
 }
 
 // Writes each block.
-fn blocks(out: &mut impl Write, bytes: &[u8], blocks: usize) -> io::Result<()>
-    requires { (blocks ≡ count bytes.now) × (6 + 12 * blocks ≤ length bytes.now) }
+#[tactic(auto, using(records::proofs::Offsets::blocks_counted))]
+fn blocks(out: &mut impl Write, bytes: &[u8]) -> io::Result<()>
+    requires { 6 + 12 * count bytes.now ≤ length bytes.now }
 {
-    for i in 0..blocks {
+    for (i, item) in records::blocks(bytes).enumerate() {
         if 0 < i {
             out.write_all(b", ")?;
         }
-        block(out, records::read_block(bytes, i))?;
+        block(out, item)?;
     }
     Ok(())
 }
