@@ -1,5 +1,5 @@
 // The normal form of a mask's blocks, one after the other, which needs no room for them.
-ghost use Rattle.std.specs.Prelude.{◌≡◌, ◌+◌, ◌*◌, ◌≤◌, length, List};
+ghost use Rattle.std.specs.Prelude.{◌≡◌, ◌+◌, ◌*◌, ◌≤◌, length};
 ghost use Rattle.std.specs.Iterator.{YieldsFirst, item_count};
 ghost use Rattle.model.specs.declared.Block.{Block};
 ghost use Rattle.model.specs.NormalForm.{normal};

@@ -35,7 +35,7 @@ pub struct Tried {
 }
 
 // Narrow: the verdict on a book and a mask, with the narrowed mask written over the first bytes of `out`; for none nothing is
-// written. Book checks, mask checks, 9, 10. A small mask takes little of the stack.
+// written. Book checks, mask checks, 9, 10. For a small mask little room is cleared.
 pub fn narrow(book: &[u8], mask: &[u8], out: &mut [u8]) -> Result<Narrowed, Refusal>
     ensures { Narrows (from_record book.now mask.now) out.old out.new result }
 {

@@ -1,5 +1,5 @@
 // The entry of the narrowed list that place returns.
-ghost use Rattle.std.specs.Prelude.{true, false, ◌≡◌, ◌+◌, ◌*◌, ◌≤◌, ◌<◌, length};
+ghost use Rattle.std.specs.Prelude.{false, ◌≡◌, ◌+◌, ◌*◌, ◌≤◌, ◌<◌, length};
 ghost use Rattle.model.specs.Refusal.{accepted};
 ghost use Rattle.model.specs.DashedString.{block_at};
 ghost use Rattle.model.specs.Place.{begins, entry_of, place as placed};
@@ -58,7 +58,8 @@ pub(crate) fn place_entry(pair: Pair, book: &[u8], mask: &[u8], block: usize, pl
     place_sized::<1024, 2048>(pair, book, mask, entry)
 }
 
-// An entry of the narrowed list, or the empty block where no code is legal, in room for at most MOST blocks whose upper bounds sum to at most MOST; ROOM is twice as much.
+// An entry of the narrowed list, or the empty block where no code is legal, in room for at most MOST blocks whose upper bounds
+// sum to at most MOST; ROOM is twice as much.
 fn place_sized<const MOST: usize, const ROOM: usize>(
     pair: Pair,
     book: &[u8],
