@@ -17,13 +17,6 @@ use Rattle.records.proofs.Offsets.{blocks_counted}
 use Rattle.records.proofs.WellFormed.{mask_record}
 use Rattle.propagator.proofs.Rows.{sum_uppers}
 
--- the next block's entries begin behind the places and the optional part of this one
-begins_more : (xs : List Block) (i : ℕ) → i < length xs → begins xs (suc i) ≡ begins xs i + suc (block_at xs i).lower
-begins_more [] i h = absurd (omega arith)
-begins_more (x ∷ []) zero h = omega arith
-begins_more (x ∷ y ∷ xs) zero h = omega arith
-begins_more (x ∷ xs) (suc i) h = omega (arith, begins_more xs i (omega arith))
-
 -- a block's entries lie within the list
 begins_within : (xs : List Block) (i : ℕ) → i < length xs → begins xs i + suc (block_at xs i).lower ≤ lower_sum xs + length xs
 unfolding lower_sum
