@@ -69,11 +69,7 @@ impl<'a> Letters<'a> {
     {
         if width == 0 {
             return Optional {
-                block: Block {
-                    base: 0,
-                    lower: 0,
-                    upper: 0,
-                },
+                block: Block::EMPTY,
                 states: bitset::intersection(from, end),
                 kept: None,
             };

@@ -1,5 +1,5 @@
 // Masks in 01's notation: `{0,1} 1-1, {2} 1-1`, letters as numbers.
-ghost use Rattle.std.specs.Prelude.{◌≡◌, ◌+◌, ◌*◌, ◌≤◌, length};
+ghost use Rattle.std.specs.Prelude.{◌+◌, ◌*◌, ◌≤◌, length};
 ghost use Rattle.records.specs.Mask.{count};
 
 use model::Block;
