@@ -27,7 +27,7 @@ pub fn some_strange(word: &[u8], letters: usize) -> bool
 #[tactic(auto, using(crate::proofs::Comparing::marks_more, crate::proofs::Comparing::marks_end))]
 pub fn spells(mask: &[u8], word: &[u8]) -> bool
     requires whole { 6 + 12 * count mask.now ≤ length mask.now }
-    requires word_len_bound { (length word.now ≤ 1024) × Letters 64 word.now }
+    requires short { (length word.now ≤ 1024) × Letters 64 word.now }
     ensures { result ≡ spec.spells (mask_of mask.now) word.now }
 {
     let mut marks = [false; 1025];
@@ -43,7 +43,7 @@ pub fn spells(mask: &[u8], word: &[u8]) -> bool
 
 // Whether the book accepts the word.
 pub fn accepts(book: Book, moves: &[u8], word: &[u8]) -> bool
-    requires start_lt_states { (book.start < book.states) × (book.states < 64) × (book.states * book.letters ≤ length moves.now) }
+    requires sound { (book.start < book.states) × (book.states < 64) × (book.states * book.letters ≤ length moves.now) }
     requires letters { Letters book.letters word.now }
     ensures { result ≡ spec.accepts (automaton_of book moves.now) word.now }
 {

@@ -8,7 +8,7 @@ use model::Block;
 // Where the run of letters of the set that ends at position `j` begins: behind the last letter outside the set. `start` is
 // where the run begins that ends at the position before.
 fn run_start(word: &[u8], base: u64, j: usize, start: usize) -> usize
-    requires j_in_bounds { (j ≤ length word.now) × Letters 64 word.now }
+    requires position { (j ≤ length word.now) × Letters 64 word.now }
     requires last { Last (outside base word.now) (j - 1) start }
     ensures { Last (outside base word.now) j result }
 {
@@ -22,7 +22,7 @@ fn run_start(word: &[u8], base: u64, j: usize, start: usize) -> usize
 // The last marked position from which there are at least `lower` letters to position `j`. `before` is the same for the
 // position before.
 fn latest(from: &[bool], lower: u16, j: usize, before: Option<usize>) -> Option<usize>
-    requires j_in_bounds { j < length from.now }
+    requires position { j < length from.now }
     requires last { Last (marked from.now) (j - lower) (one_more before) }
     ensures { Last (marked from.now) (j + 1 - lower) (one_more result) }
 {
@@ -44,7 +44,7 @@ fn reaches(start: usize, begin: Option<usize>, upper: u16, j: usize) -> bool
 // positions with enough letters behind them the last decides: where a piece from an earlier one is within the set and short
 // enough, so is the piece from there.
 pub(crate) fn extend(word: &[u8], block: Block, from: &[bool], to: &mut [bool])
-    requires word_in_bounds { (length word.now < length from.now) × (length word.now < length to.old) }
+    requires marks_fit { (length word.now < length from.now) × (length word.now < length to.old) }
     requires letters { Letters 64 word.now }
     ensures { Extends block word.now from.now to.new }
 {

@@ -29,9 +29,9 @@ pub fn normalize(blocks: &mut [Block]) -> usize
 
 // Puts block `i` in front of the normal form in the entries from `at` on, and returns where that begins then.
 fn push(blocks: &mut [Block], i: usize, at: usize) -> usize
-    requires i_lt_at { (i < at) × (at ≤ length blocks.old) }
-    requires room { Room 64 (block_at blocks.old i ∷ []) }
-    requires room_2 { Room 64 (drop at blocks.old) }
+    requires order { (i < at) × (at ≤ length blocks.old) }
+    requires own { Room 64 (block_at blocks.old i ∷ []) }
+    requires behind { Room 64 (drop at blocks.old) }
     ensures { Pushed blocks.old i at blocks.new result }
 {
     let block = blocks[i];

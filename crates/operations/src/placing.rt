@@ -35,7 +35,7 @@ fn first_entry(mask: &[u8], block: usize) -> usize
 // The number of the entry of a block, from 0, and a place; place 0 is the optional part, behind the places.
 fn entry_of(mask: &[u8], block: usize, place: usize) -> usize
     requires mask_value { (mask_refusal mask.now ≡ accepted) × (block < count mask.now) }
-    requires place_bound { place ≤ (block_at (mask_of mask.now) block).lower }
+    requires place_there { place ≤ (block_at (mask_of mask.now) block).lower }
     ensures { result ≡ entry_of (mask_of mask.now) block place }
 {
     let first = first_entry(mask, block);

@@ -41,7 +41,7 @@ pub fn pass(
     count: usize,
     sets: &mut [u64],
 ) -> Passed
-    requires states_bound { (book.states < 64) × (book.start < book.states) × (book.states * book.letters ≤ length moves.now) }
+    requires sound { (book.states < 64) × (book.start < book.states) × (book.states * book.letters ≤ length moves.now) }
     requires room { Room book.letters (take count blocks.old) }
     requires blocks_fit { lower_sum (take count blocks.old) + count ≤ length blocks.old }
     requires sets_fit { stored_sum (take count blocks.old) ≤ length sets.old }

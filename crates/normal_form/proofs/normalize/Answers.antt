@@ -3,8 +3,8 @@ use Rattle.std.proofs.Common.{◌∙◌, ◌-◌, refl, arith}
 use Rattle.normal_form.proofs.Turns.{normal_more, room_at}
 use Rattle.normal_form.proofs.normalize.Goals as goal
 
-pub push-at-requires-clause-room : goal.push-at-requires-clause-room
-push-at-requires-clause-room c =
+pub push-at-requires-clause-own : goal.push-at-requires-clause-own
+push-at-requires-clause-own c =
     rw (c.loop-i.invariant.before (c.loop-i.i - 1) (omega arith)) (room_at _ c.requires (c.loop-i.i - 1) (omega arith))
 
 pub loop-i-preserved : goal.loop-i-preserved

@@ -21,7 +21,7 @@ returns-then-some_strange c = try_strange _ _ _ _ (sym c.read_pair.ensures ∙ c
 pub spells-requires : goal.spells-requires
 spells-requires c =
     let all = mask_question _ _ _ _ (sym c.read_pair.ensures ∙ c.in_ok-pair.was) (omega arith) (sym c.some_strange.ensures ∙ c.if-some_strange.false) in
-    record { whole = all.0; word_len_bound = all.1 }
+    record { whole = all.0; short = all.1 }
 
 pub slice_bounds-accepts-count : goal.slice_bounds-accepts-count
 slice_bounds-accepts-count c = omega (arith, book_long _ _ _ (pair_ready _ _ _ (sym c.read_pair.ensures ∙ c.in_ok-pair.was)))
@@ -32,7 +32,7 @@ slice_bounds-accepts-start c = omega (arith, book_long _ _ _ (pair_ready _ _ _ (
 pub accepts-requires : goal.accepts-requires
 accepts-requires c =
     let all = book_question _ _ _ _ (sym c.read_pair.ensures ∙ c.in_ok-pair.was) (sym c.some_strange.ensures ∙ c.if-some_strange.false) in
-    record { start_lt_states = all.0; letters = all.1 }
+    record { sound = all.0; letters = all.1 }
 
 pub returns : goal.returns
 returns c = try_answers _ _ _ _ (sym c.read_pair.ensures ∙ c.in_ok-pair.was) (omega arith) (sym c.some_strange.ensures ∙ c.if-some_strange.false) _ _ c.spells.ensures c.accepts.ensures

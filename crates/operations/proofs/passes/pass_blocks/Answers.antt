@@ -9,8 +9,8 @@ slice_bounds-pass-count c = omega (arith, book_long _ _ _ c.requires.ready)
 pub slice_bounds-pass-start : goal.slice_bounds-pass-start
 slice_bounds-pass-start c = omega (arith, book_long _ _ _ c.requires.ready)
 
-pub pass-requires-clause-states_bound : goal.pass-requires-clause-states_bound
-pass-requires-clause-states_bound c = book_moves _ _ _ c.requires.ready
+pub pass-requires-clause-sound : goal.pass-requires-clause-sound
+pass-requires-clause-sound c = book_moves _ _ _ c.requires.ready
 
 pub pass-requires-clause-room : goal.pass-requires-clause-room
 pass-requires-clause-room c = blocks_room _ _ _ c.requires.ready (omega arith)

@@ -12,7 +12,7 @@ overflow_sub-block c = omega (arith, (entry_asked _ _ _ c.requires.mask_value _ 
 pub entry_of-entry-requires : goal.entry_of-entry-requires
 entry_of-entry-requires c =
     let (_, within, lower) = entry_asked _ _ _ c.requires.mask_value _ _ c.requires.place_value in
-    record { mask_value = (pair_mask_none _ _ _ c.requires.mask_value, within); place_bound = lower }
+    record { mask_value = (pair_mask_none _ _ _ c.requires.mask_value, within); place_there = lower }
 
 pub place_sized-requires-clause-bound : goal.place_sized-requires-clause-bound
 place_sized-requires-clause-bound c = entry_there _ _ _ c.requires.mask_value _ _ c.requires.place_value _ c.entry_of-entry.ensures
