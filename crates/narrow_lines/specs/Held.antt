@@ -12,8 +12,8 @@ abbrev pub ended : Input → Bool
 ended i = is_some i.end
 
 -- no read failed
-abbrev pub Sound : Input → Type 0
-Sound i = IfSome i.end (λ r. IsOk r)
+abbrev pub NoFailure : Input → Type 0
+NoFailure i = IfSome i.end (λ r. IsOk r)
 
 -- where the input has ended, the reader has nothing left
 abbrev pub Ends : Bool → Option (List ℕ) → Type 0
@@ -24,4 +24,4 @@ pub record Brings (old new : Input) (had left : Option (List ℕ)) : Type 0 wher
   pub more : List ℕ
   pub behind : held new ≡ held old ++ more
   pub grows : ended new ≡ false → length (held old) < length (held new)
-  pub read : Sound new → Consumes had left more × Ends (ended new) left
+  pub read : NoFailure new → Consumes had left more × Ends (ended new) left

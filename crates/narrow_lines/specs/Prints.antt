@@ -5,13 +5,13 @@ use Rattle.model.specs.declared.Refusal.{Refusal}
 use Rattle.lines.specs.Output.{lines_from, output}
 use Rattle.lines.specs.Parts.{Opens}
 use Rattle.narrow_lines.specs.declared.input.Input.{Input}
-use Rattle.narrow_lines.specs.Held.{held, ended, Sound, Ends}
+use Rattle.narrow_lines.specs.Held.{held, ended, NoFailure, Ends}
 
 -- what the input begins with is settled by the bytes held, which are all that was read
 pub record Begins (input : Input) (begins : Result ℕ Refusal) (had left : Option (List ℕ)) : Type 0 where
   pub opens : let settles : Result (Option ℕ) Refusal → Type 0 = Opens (held input) (ended input) in
       MatchResult begins (λ k. settles (Ok (Some k))) (λ r. settles (Err r))
-  pub read : Sound input → Consumes had left (held input) × Ends (ended input) left
+  pub read : NoFailure input → Consumes had left (held input) × Ends (ended input) left
 
 -- the lines of the bytes held and of all that the reader had left
 abbrev pub PrintsMasks : List ℕ → ℕ → List ℕ → Option (List ℕ) → Option (List ℕ) → Option (List ℕ) → Type 0

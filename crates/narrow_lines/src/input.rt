@@ -17,7 +17,7 @@ pub(crate) struct Input {
 }
 
 impl Input {
-    ghost use Rattle.narrow_lines.specs.Held.{held, ended, Sound, Brings};
+    ghost use Rattle.narrow_lines.specs.Held.{held, ended, NoFailure, Brings};
 
     // Nothing is read.
     pub(crate) fn new() -> Input
@@ -65,7 +65,7 @@ impl Input {
 
     // The error of the read that failed, if one did.
     pub(crate) fn finish(self) -> io::Result<()>
-        ensures { IsOk result ↔ Sound self }
+        ensures { IsOk result ↔ NoFailure self }
     {
         self.end.unwrap_or(Ok(()))
     }

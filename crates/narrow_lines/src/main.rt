@@ -3,7 +3,7 @@
 #![tactic(auto)]
 
 ghost use Rattle.std.specs.Prelude.{◌≡◌, [], false, OnOk};
-ghost use Rattle.narrow_lines.specs.Held.{held, ended, Ends, Sound};
+ghost use Rattle.narrow_lines.specs.Held.{held, ended, Ends, NoFailure};
 ghost use Rattle.narrow_lines.specs.Prints.{Begins, PrintsMasks, PrintsOutput};
 
 mod input;
@@ -35,8 +35,8 @@ fn print_masks<R: Read, W: Write>(
     book: &[u8],
     input: &mut Input,
 ) -> io::Result<()>
-    ensures sound { Sound input.new → Sound input.old }
-    ensures prints { OnOk result (Sound input.new → Ends (ended input.old) (R.remaining reader.old)
+    ensures sound { NoFailure input.new → NoFailure input.old }
+    ensures prints { OnOk result (NoFailure input.new → Ends (ended input.old) (R.remaining reader.old)
         → PrintsMasks book.now 1 (held input.old) (R.remaining reader.old)
         (W.contents writer.old) (W.contents writer.new)) }
 {

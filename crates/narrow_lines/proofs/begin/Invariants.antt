@@ -1,11 +1,11 @@
 use Rattle.std.proofs.Common.{◌+◌, ◌-◌, cond, length}
 use Rattle.std.specs.Io.KnownBytes.{Consumes}
-use Rattle.narrow_lines.specs.Held.{held, ended, Sound, Ends}
+use Rattle.narrow_lines.specs.Held.{held, ended, NoFailure, Ends}
 use Rattle.narrow_lines.proofs.begin.Given as goal
 
 abbrev pub invariant-loop-size : goal.invariant-loop-size
 invariant-loop-size g l =
-    Sound l.input
+    NoFailure l.input
     → Consumes (g.R.Read.remaining l.initial.reader) (g.R.Read.remaining l.reader) (held l.input) × Ends (ended l.input) (g.R.Read.remaining l.reader)
 
 abbrev pub decreases-loop-size : goal.decreases-loop-size
