@@ -1,6 +1,6 @@
 -- Which check decides, and what those that pass tell.
 -- Assumes nothing.
-use Rattle.std.proofs.Common.{◌≡◌, ℕ, zero, suc, ◌*◌, ◌<◌, ◌≤◌, Bool, true, false, ◌||◌, Option, Some, Ok, ◌↔◌, List, [], ◌∷◌, ◌++◌, length, get_or, refl, mul-le-mul, arith}
+use Rattle.std.proofs.Common.{◌≡◌, ℕ, zero, suc, ◌+◌, ◌*◌, ◌<◌, ◌≤◌, Bool, true, false, ◌||◌, Option, Some, Ok, ◌↔◌, List, [], ◌∷◌, ◌++◌, length, get_or, refl, mul-le-mul, arith}
 use Rattle.std.proofs.lemmas.Bool.Decides.{nat_tests}
 use Rattle.model.specs.declared.Block.{Block}
 use Rattle.model.specs.declared.Refusal.{Refusal}
@@ -8,9 +8,10 @@ use Rattle.model.specs.Refusal.{accepted, refuse, unless}
 use Rattle.model.specs.Set.{Member, some_from}
 use Rattle.model.specs.DashedString.{Each}
 use Rattle.bitset.proofs.Laws.{some_from_lem}
-use Rattle.records.specs.declared.Book.{Book}
+use Rattle.records.specs.declared.automaton.BookHead.{BookHead}
 use Rattle.records.specs.Check.{some, length_field, kind, unframed, frame_refusal}
-use Rattle.records.specs.Book.{out_of_range}
+use Rattle.records.specs.Mask.{count, mask_of, blocks_refusal, mask_refusal}
+use Rattle.records.specs.Book.{out_of_range, unnamed}
 
 -- no refusal: this check doesn't fail, and the next ones don't refuse
 pub peel : (t : Bool) (k : Refusal) (r : Option Refusal) → refuse t k r ≡ accepted → (t ≡ false) × (r ≡ accepted)
@@ -74,16 +75,31 @@ pub framing : (bs : List ℕ) → (unframed bs ≡ false) ↔ ((4 ≤ length bs)
 unfolding unframed
 framing bs = grind (arith, nat_tests)
 
+-- where checks 1 to 5 of a mask pass, those of its blocks decide
+pub blocks_decide : (bs : List ℕ) → unframed bs ≡ false → kind bs ≡ 2 → 6 ≤ length bs → count bs ≤ 1024 → length bs ≡ 6 + 12 * count bs
+    → mask_refusal bs ≡ blocks_refusal (mask_of bs)
+unfolding refuse mask_refusal
+blocks_decide bs frame two long few size = grind (arith, nat_tests)
+
 -- what checks 1 to 3 leave
 pub framed : {A : Type 0} (k head : ℕ) (bs : List ℕ) (x y : A) → unless (frame_refusal k head bs) x ≡ Ok y → (unframed bs ≡ false) × (kind bs ≡ k) × (head ≤ length bs)
 unfolding refuse frame_refusal
 framed k head bs x y e = grind (arith, nat_tests)
 
 -- n and m are in their ranges
-pub in_range : (b : Book) → (out_of_range b ≡ false) ↔ (((0 < b.states) × (b.states ≤ 63)) × ((0 < b.letters) × (b.letters ≤ 64)))
+pub in_range : (b : BookHead) → (out_of_range b ≡ false) ↔ (((0 < b.states) × (b.states ≤ 63)) × ((0 < b.letters) × (b.letters ≤ 64)))
 unfolding out_of_range
 in_range b = grind (arith, nat_tests)
 
+-- so there are few states
+pub few_states : (b : BookHead) → out_of_range b ≡ false → b.states < 64
+few_states b e = omega (arith, (in_range b).0 e)
+
+-- and the start is one of them
+pub start_named : (b : BookHead) (moves : List ℕ) → unnamed b moves ≡ false → b.start < b.states
+unfolding unnamed
+start_named b moves e = grind (arith, nat_tests)
+
 -- so there are few moves
-pub few_moves : (b : Book) → out_of_range b ≡ false → b.states * b.letters ≤ 63 * 64
+pub few_moves : (b : BookHead) → out_of_range b ≡ false → b.states * b.letters ≤ 63 * 64
 few_moves b e = let (n, m) = (in_range b).0 e in mul-le-mul n.1 m.1

@@ -1,6 +1,6 @@
 -- The blocks of a record: how many there are, and which bytes block j is.
 -- Assumes nothing.
-use Rattle.std.proofs.Common.{◌≡◌, ℕ, zero, suc, ◌+◌, ◌-◌, ◌*◌, ◌<◌, ◌≤◌, List, [], ◌∷◌, length, refl, ap, arith}
+use Rattle.std.proofs.Common.{◌≡◌, ℕ, zero, suc, ◌+◌, ◌-◌, ◌*◌, ◌<◌, ◌≤◌, List, [], ◌∷◌, length, refl, sym, ap, arith}
 use Rattle.model.specs.DashedString.{block_at}
 use Rattle.records.specs.Mask.{count, block_from, blocks_from, mask_of}
 
@@ -21,6 +21,11 @@ unfolding blocks_from
 block_at_lem zero bs i j h = absurd (omega arith)
 block_at_lem (suc k) bs i zero h = ap (block_from bs) (omega arith)
 block_at_lem (suc k) bs i (suc j) h = rw (block_at_lem k bs (i + 12) j (omega arith)) (ap (block_from bs) (omega arith))
+
+-- block i of a mask
+pub block_of_mask : (bs : List ℕ) (i : ℕ) → i < count bs → block_from bs (6 + 12 * i) ≡ block_at (mask_of bs) i
+unfolding mask_of
+block_of_mask bs i h = sym (block_at_lem (count bs) bs 6 i h)
 
 -- the first block of some, and the rest
 pub first_block : (bs : List ℕ) (at left : ℕ) → 0 < left → blocks_from left bs at ≡ block_from bs at ∷ blocks_from (left - 1) bs (at + 12)

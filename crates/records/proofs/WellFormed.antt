@@ -9,7 +9,7 @@ use Rattle.model.specs.DashedString.{block_at, Each, Bounded}
 use Rattle.model.specs.Automaton.{Dfa}
 use Rattle.model.specs.Legal.{Checked}
 use Rattle.model.specs.Size.{uppers, WellFormed, Fits}
-use Rattle.records.specs.declared.Book.{Book}
+use Rattle.records.specs.declared.automaton.BookHead.{BookHead}
 use Rattle.records.specs.Bytes.{Bytes}
 use Rattle.records.specs.Check.{some, length_field, kind, unframed}
 use Rattle.records.specs.Book.{book_head, moves_of, out_of_range, book_of, stray, unnamed, book_checks, book_refusal}
@@ -32,13 +32,13 @@ named : (n r : ℕ) → (stray n r ≡ false) ↔ ((r < n) ⊎ (r ≡ 255))
 named n r = grind (arith, nat_tests)
 
 -- check 6 leaves exactly these
-naming : (b : Book) (moves : List ℕ) → (unnamed b moves ≡ false)
+naming : (b : BookHead) (moves : List ℕ) → (unnamed b moves ≡ false)
     ↔ ((b.start < b.states) × (some_from b.accepting b.states ≡ false) × (some (stray b.states) moves ≡ false))
 unfolding unnamed
 naming b moves = grind (arith, nat_tests)
 
 -- and so do all book checks
-book_passes : (bs : List ℕ) (b : Book) → (book_checks bs b ≡ accepted)
+book_passes : (bs : List ℕ) (b : BookHead) → (book_checks bs b ≡ accepted)
     ↔ ((unframed bs ≡ false) × (kind bs ≡ 1) × (15 ≤ length bs) × (out_of_range b ≡ false) × (length bs ≡ 15 + b.states * b.letters) × (unnamed b (moves_of bs) ≡ false))
 unfolding refuse book_checks
 book_passes bs b = grind (arith, nat_tests)

@@ -1,14 +1,14 @@
--- A mask's numbers, gathered from block after block.
+-- The totals of blocks, gathered from block after block.
 use Rattle.std.specs.Prelude.{◌+◌, Result}
 use Rattle.model.specs.declared.Block.{Block}
 use Rattle.model.specs.declared.Refusal.{Refusal}
 use Rattle.model.specs.declared.Refusal.TheVariants.{Crossed}
 use Rattle.model.specs.Refusal.{accepted, refuse, unless}
 use Rattle.model.specs.Set.{either}
-use Rattle.records.specs.declared.Mask.{Mask}
+use Rattle.records.specs.declared.Totals.{Totals}
 use Rattle.records.specs.Mask.{crossed}
 
--- the numbers with those of one block more, by check 7
-abbrev pub with_block : Mask → Block → Result Mask Refusal
-with_block m x =
-    unless (refuse (crossed x) Crossed accepted) (record { blocks = m.blocks; uppers = m.uppers + x.upper; used = either m.used x.base })
+-- the totals with those of one block more, by check 7
+abbrev pub with_block : Totals → Block → Result Totals Refusal
+with_block n x =
+    unless (refuse (crossed x) Crossed accepted) (record { uppers = n.uppers + x.upper; used = either n.used x.base })

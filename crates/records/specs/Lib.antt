@@ -5,5 +5,6 @@ pub mod Book
 pub mod Mask
 pub mod Gathered
 pub mod Written
+pub mod Read
 pub mod WellFormed
 pub mod Samples

@@ -7,7 +7,7 @@ use Rattle.model.specs.Refusal.{accepted, refuse, unless}
 use Rattle.model.specs.Set.{either, some_from}
 use Rattle.model.specs.DashedString.{block}
 use Rattle.model.specs.Size.{uppers}
-use Rattle.records.specs.declared.Mask.{Mask}
+use Rattle.records.specs.declared.Totals.{Totals}
 use Rattle.records.specs.Bytes.{number_at}
 use Rattle.records.specs.Check.{some, kind, unframed}
 
@@ -54,17 +54,13 @@ unfoldable pub with_letters : ℕ → List Block → ℕ
 with_letters s [] = s
 with_letters s (x ∷ xs) = with_letters (either s x.base) xs
 
--- the numbers of a mask: how many blocks, the sum of their upper bounds, and the letters that some set has
-abbrev pub numbers_of : List Block → Mask
-numbers_of xs = record { blocks = length xs; uppers = uppers xs; used = with_letters 0 xs }
+-- the totals of blocks: the sum of their upper bounds, and the letters that some set has
+abbrev pub totals_of : List Block → Totals
+totals_of xs = record { uppers = uppers xs; used = with_letters 0 xs }
 
--- a slice of bytes as a mask, or its refusal
-unfoldable pub read_mask : List ℕ → Result Mask Refusal
-read_mask bs = unless (mask_refusal bs) (numbers_of (mask_of bs))
-
--- blocks as a mask, or their refusal
-unfoldable pub read_blocks : List Block → Result Mask Refusal
-read_blocks xs = unless (blocks_refusal xs) (numbers_of xs)
+-- the totals of blocks, or their refusal
+unfoldable pub read_blocks : List Block → Result Totals Refusal
+read_blocks xs = unless (blocks_refusal xs) (totals_of xs)
 
 -- the block's set has a letter m or above
 abbrev pub beyond : ℕ → Block → Bool

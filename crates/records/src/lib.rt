@@ -2,111 +2,96 @@
 // What the bytes mean stands in specs/.
 #![tactic(auto)]
 
-ghost use Rattle.std.specs.Prelude.{◌≡◌, ◌+◌, ◌*◌, ◌<◌, ◌≤◌, length};
+ghost use Rattle.std.specs.Prelude.{◌≡◌, ◌+◌, ◌*◌, ◌≤◌, length};
 ghost use Rattle.std.proofs.lemmas.List.Edits.{sets};
 ghost use Rattle.model.specs.Set.{some_from};
-ghost use Rattle.model.specs.DashedString.{block_at};
-ghost use Rattle.model.specs.Automaton.{next};
 ghost use Rattle.records.specs.Bytes.{over};
-ghost use Rattle.records.specs.Book.{table_of, read_book};
-ghost use Rattle.records.specs.Mask.{count, mask_of, read_mask, read_blocks};
+ghost use Rattle.records.specs.Mask.{count, mask_of, read_blocks};
 ghost use Rattle.records.specs.Written.{head_bytes, mask_bytes};
+ghost use Rattle.records.specs.Read.{ReadsBook, ReadsMask};
 
 mod automaton;
 mod block;
+mod book;
 mod frame;
 mod gather;
 mod iter;
+mod mask;
 mod moves;
 mod number;
+mod table;
 mod writer;
 
+pub use book::Book;
 pub use frame::length_field;
 pub use iter::Blocks;
+pub use mask::Mask;
 use model::{Block, Refusal};
+pub use table::Table;
 pub use writer::write_block;
 
-// The numbers of a kind 1 record (a book): n, m, the start and the accepting states. Its moves stay in the slice.
+// The totals of a mask's blocks: the sum of their upper bounds, and the letters that some set has.
 #[derive(Clone, Copy)]
-pub struct Book {
-    pub states: usize,
-    pub letters: usize,
-    pub start: usize,
-    pub accepting: u64,
-}
-
-// The numbers of a mask: how many blocks, the sum of their upper bounds, and the letters that some set has. Its blocks stay
-// where they are.
-#[derive(Clone, Copy)]
-pub struct Mask {
-    pub blocks: usize,
+pub struct Totals {
     pub uppers: usize,
     pub used: u64,
 }
 
 // A slice as a book, or the first book check that fails.
-#[tactic(auto, using(crate::proofs::Checks::framing, crate::proofs::Checks::few_moves, crate::proofs::Over::part_rest), unfolding(model::specs::Refusal::refuse, crate::specs::Book::read_book, crate::specs::Book::book_checks, crate::specs::Check::frame_refusal, crate::specs::Book::moves_of))]
-pub fn read_book(bytes: &[u8]) -> Result<Book, Refusal>
-    ensures { result ≡ read_book bytes.now }
+#[tactic(auto, using(crate::proofs::Checks::framing, crate::proofs::Checks::few_states, crate::proofs::Checks::start_named, crate::proofs::Checks::few_moves, crate::proofs::Over::part_rest), unfolding(model::specs::Refusal::refuse, crate::specs::Book::book_checks, crate::specs::Check::frame_refusal, crate::specs::Book::moves_of))]
+pub fn read_book<'a>(bytes: &'a [u8]) -> Result<Book<'a>, Refusal>
+    ensures { ReadsBook bytes.now result }
 {
     frame::check(bytes, 1, 15)?;
-    let book = automaton::head(bytes);
-    if automaton::out_of_range(book) {
+    let head = automaton::read_head(bytes);
+    if automaton::out_of_range(head) {
         return Err(Refusal::OutOfRange);
     }
-    if bytes.len() != 15 + book.states * book.letters {
+    if bytes.len() != 15 + head.states * head.letters {
         return Err(Refusal::Size);
     }
-    if automaton::unnamed(book, &bytes[15..]) {
+    let moves = &bytes[15..];
+    if automaton::unnamed(head, moves) {
         return Err(Refusal::Unnamed);
     }
-    Ok(book)
+    let table = Table {
+        states: head.states,
+        letters: head.letters,
+        moves,
+    };
+    Ok(Book {
+        table,
+        start: head.start,
+        accepting: head.accepting,
+    })
 }
 
 // A slice as a mask, or the first mask check that fails.
-#[tactic(auto, using(crate::proofs::Checks::framing), unfolding(model::specs::Refusal::refuse, crate::specs::Mask::read_mask, crate::specs::Mask::mask_refusal, crate::specs::Check::frame_refusal))]
-pub fn read_mask(bytes: &[u8]) -> Result<Mask, Refusal>
-    ensures { result ≡ read_mask bytes.now }
+#[tactic(auto, using(crate::proofs::Checks::framing), unfolding(model::specs::Refusal::refuse, crate::specs::Mask::mask_refusal, crate::specs::Check::frame_refusal))]
+pub fn read_mask<'a>(bytes: &'a [u8]) -> Result<Mask<'a>, Refusal>
+    ensures { ReadsMask bytes.now result }
 {
     frame::check(bytes, 2, 6)?;
-    let blocks = number::read(bytes, 4, 2) as usize;
-    if 1024 < blocks {
+    let count = number::read(bytes, 4, 2) as usize;
+    if 1024 < count {
         return Err(Refusal::OutOfRange);
     }
-    if bytes.len() != 6 + 12 * blocks {
+    if bytes.len() != 6 + 12 * count {
         return Err(Refusal::Size);
     }
-    gather::mask_of(blocks, |i| read_block(bytes, i))
+    let totals = gather::totals_of(count, |i| block::block_from(bytes, 6 + 12 * i))?;
+    Ok(Mask { bytes, totals })
 }
 
-// Blocks as a mask, or the first check that fails: 7 and 8.
-pub fn check_blocks(blocks: &[Block]) -> Result<Mask, Refusal>
+// The totals of blocks, or the first check that fails: 7 and 8.
+pub fn check_blocks(blocks: &[Block]) -> Result<Totals, Refusal>
     requires { length blocks.now ≤ 1024 }
     ensures { result ≡ read_blocks blocks.now }
 {
-    gather::mask_of(blocks.len(), |i| blocks[i])
+    gather::totals_of(blocks.len(), |i| blocks[i])
 }
 
-// The state that state `q` moves to by letter `c`: `states`, the dead state, where the move names none.
-#[tactic(auto, using(crate::proofs::Next::next_names, crate::proofs::Next::next_dead))]
-pub fn next_state(states: usize, letters: usize, moves: &[u8], q: usize, c: usize) -> usize
-    requires { (q < states) × (c < letters) × (states * letters ≤ length moves.now) }
-    ensures { result ≡ next (table_of states letters moves.now) q c }
-{
-    let state = usize::from(moves[q * letters + c]);
-    if state < states { state } else { states }
-}
-
-// Block `i` of a mask, from 0.
-#[tactic(auto, using(crate::proofs::Offsets::block_at_lem), unfolding(crate::specs::Mask::mask_of))]
-pub fn read_block(bytes: &[u8], i: usize) -> Block
-    requires { (i < count bytes.now) × (6 + 12 * count bytes.now ≤ length bytes.now) }
-    ensures { result ≡ block_at (mask_of bytes.now) i }
-{
-    block::block_from(bytes, 6 + 12 * i)
-}
-
-// The blocks of a mask, from the first on.
+// The blocks of a mask's record, from the first on.
 pub fn blocks<'a>(bytes: &'a [u8]) -> Blocks<'a>
     requires { 6 + 12 * count bytes.now ≤ length bytes.now }
     ensures { result ≡ mask_of bytes.now }
@@ -114,22 +99,11 @@ pub fn blocks<'a>(bytes: &'a [u8]) -> Blocks<'a>
     Blocks::of(bytes)
 }
 
-// Copies a mask's blocks into a slice of as many.
-pub fn read_blocks(bytes: &[u8], blocks: &mut [Block])
-    requires same_count { length blocks.old ≡ count bytes.now }
-    requires whole { 6 + 12 * count bytes.now ≤ length bytes.now }
-    ensures { blocks.new ≡ mask_of bytes.now }
-{
-    for i in 0..blocks.len() {
-        blocks[i] = read_block(bytes, i);
-    }
-}
-
 // Check 9: whether some set of a mask has a letter that is `letters` or above.
-pub fn some_foreign(mask: Mask, letters: usize) -> bool
-    ensures { result ≡ some_from mask.used letters }
+pub fn some_foreign(totals: Totals, letters: usize) -> bool
+    ensures { result ≡ some_from totals.used letters }
 {
-    bitset::some_from(mask.used, letters)
+    bitset::some_from(totals.used, letters)
 }
 
 // Writes the six head bytes of a mask of `count` blocks over the first bytes of `out`.

@@ -5,4 +5,4 @@ use Rattle.records.proofs.Copies.{values_all}
 use Rattle.records.proofs.check_blocks.Goals as goal
 
 pub returns : goal.returns
-returns c = rw (values_all c.args.blocks.now) at (c.mask_of.ensures (block_at c.args.blocks.now) (λ i x h p. search rules))
+returns c = rw (values_all c.args.blocks.now) at (c.totals_of.ensures (block_at c.args.blocks.now) (λ i x h p. search rules))

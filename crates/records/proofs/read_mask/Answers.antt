@@ -1,19 +1,30 @@
 -- `records::read_mask` meets its contract.
-use Rattle.std.proofs.Common.{◌≡◌, ◌+◌, ◌*◌, ◌≤◌, length, sym, ◌∙◌, le-ltb, eq-eqb, rules, arith}
+use Rattle.std.proofs.Common.{◌≡◌, refl, sym, ◌∙◌, rules, arith}
+use Rattle.std.proofs.lemmas.Result.{err_from_is_err_and}
 use Rattle.model.specs.DashedString.{block_at}
-use Rattle.model.specs.Refusal.{refuse}
-use Rattle.records.specs.Check.{kind}
-use Rattle.records.specs.Mask.{count, mask_of, mask_refusal, read_mask, read_blocks}
-use Rattle.records.proofs.Checks.{framed}
+use Rattle.records.specs.Mask.{count, mask_of, read_blocks}
+use Rattle.records.proofs.Answers.{unless_ok, unless_err}
+use Rattle.records.proofs.Checks.{framed, blocks_decide}
 use Rattle.records.proofs.Copies.{record_values}
+use Rattle.records.proofs.Offsets.{block_of_mask}
 use Rattle.records.proofs.read_mask.Goals as goal
 
+pub returns-in_err-totals : goal.returns-in_err-totals
+unfolding read_blocks
+returns-in_err-totals c =
+    let bs = c.args.bytes.now in
+    let counted : c.read-count.result ≡ count bs = c.read-count.ensures.0 in
+    let checked = rw (counted, record_values bs) at (c.totals_of.ensures (block_at (mask_of bs)) (λ i x h p. search (rules, block_of_mask bs i (omega (arith, h, counted))))) in
+    let (frame, two, long) = framed 2 6 bs _ _ (sym c.check.ensures ∙ c.in_ok-check.was) in
+    let p = err_from_is_err_and c.from_residual-in_err-totals.result c.from_residual-in_err-totals.ensures.1 in
+    rw (p.1, p.2) (blocks_decide bs frame two long (omega arith) (omega arith) ∙ unless_err _ _ _ (sym checked ∙ c.in_err-totals.was))
+
 pub returns : goal.returns
-unfolding refuse read_mask mask_refusal read_blocks
+unfolding read_blocks
 returns c =
     let bs = c.args.bytes.now in
-    let counted : c.read-blocks.result ≡ count bs = c.read-blocks.ensures.0 in
-    let checked = rw (counted, record_values bs) at (c.mask_of.ensures (block_at (mask_of bs)) (λ i x h p. search rules)) in
-    let few : count bs ≤ 1024 = omega arith in
+    let counted : c.read-count.result ≡ count bs = c.read-count.ensures.0 in
+    let checked = rw (counted, record_values bs) at (c.totals_of.ensures (block_at (mask_of bs)) (λ i x h p. search (rules, block_of_mask bs i (omega (arith, h, counted))))) in
     let (frame, two, long) = framed 2 6 bs _ _ (sym c.check.ensures ∙ c.in_ok-check.was) in
-    rw (frame, eq-eqb (kind bs) 2 two, le-ltb (length bs) 6 long, le-ltb 1024 (count bs) few, eq-eqb (length bs) (6 + 12 * count bs) (omega arith)) checked
+    let (none, same) = unless_ok _ _ _ (sym checked ∙ c.in_ok-totals.was) in
+    (blocks_decide bs frame two long (omega arith) (omega arith) ∙ none, refl, same)

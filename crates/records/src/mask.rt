@@ -1,0 +1,54 @@
+// A mask, in the bytes of its record.
+ghost use Rattle.std.specs.Prelude.{◌≡◌, ◌+◌, ◌*◌, ◌<◌, ◌≤◌, length};
+ghost use Rattle.model.specs.DashedString.{block_at};
+ghost use Rattle.records.specs.Mask.{count};
+
+use crate::block::block_from;
+use crate::{Blocks, Totals, number};
+use model::Block;
+
+// The record holds as many blocks as it says.
+#[derive(Clone, Copy)]
+pub struct Mask<'a> {
+    pub bytes: &'a [u8],
+    pub totals: Totals,
+    pub ghost whole: { 6 + 12 * count bytes.now ≤ length bytes.now },
+}
+
+impl<'a> Mask<'a> {
+    ghost use Rattle.records.specs.Read.{blocks_of};
+
+    // How many blocks it has.
+    #[tactic(auto, using(crate::proofs::Offsets::blocks_counted))]
+    pub fn len(self) -> usize
+        ensures { result ≡ length (blocks_of self.entry) }
+    {
+        number::read(self.bytes, 4, 2) as usize
+    }
+
+    // Block `i`, from 0.
+    #[tactic(auto, using(crate::proofs::Offsets::blocks_counted, crate::proofs::Offsets::block_of_mask))]
+    pub fn block(self, i: usize) -> Block
+        requires { i < length (blocks_of self) }
+        ensures { result ≡ block_at (blocks_of self.entry) i }
+    {
+        block_from(self.bytes, 6 + 12 * i)
+    }
+
+    // Its blocks, from the first on.
+    pub fn blocks(self) -> Blocks<'a>
+        ensures { result ≡ blocks_of self.entry }
+    {
+        crate::blocks(self.bytes)
+    }
+
+    // Copies its blocks into a slice of as many.
+    pub fn copy_to(self, blocks: &mut [Block])
+        requires { length blocks.old ≡ length (blocks_of self) }
+        ensures { blocks.new ≡ blocks_of self.entry }
+    {
+        for i in 0..blocks.len() {
+            blocks[i] = self.block(i);
+        }
+    }
+}
