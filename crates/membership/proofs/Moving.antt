@@ -16,7 +16,7 @@ module _ (t : Table) (start : ℕ) (w : List ℕ) (i q r : ℕ) (moved : r ≡ n
   pub run_dies : r ≡ t.states → t.states ≡ run t start w
   run_dies e = sym (dead_stays t (drop (i + 1) w)) ∙ (rw e at run_more)
 
--- a state below 64 is accepting: the book accepts the words that lead there
-pub accepts_there : (b : Dfa) (w : List ℕ) (q : ℕ) → q < 64 → q ≡ run b.table b.start w → has b.accepting q ≡ accepts b w
+-- where the state behind a word is below 64, the book accepts the word if that state is accepting
+pub accepts_there : (b : Dfa) (w : List ℕ) → run b.table b.start w < 64 → accepts b w ≡ has b.accepting (run b.table b.start w)
 unfolding contains accepts
-accepts_there b w q h e = rw (← e, lt-ltb q 64 h)
+accepts_there b w h = rw (lt-ltb (run b.table b.start w) 64 h)
