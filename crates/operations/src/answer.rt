@@ -28,7 +28,7 @@ pub(crate) fn write_answer(blocks: &[Block], out: &mut [u8]) -> Result<u32, Refu
 fn write_joined(mask: Mask, out: &mut [u8])
     requires formed { Room 64 (blocks_of mask) }
     requires room { 12 * length (normal (blocks_of mask)) ≤ length out.old }
-    ensures { out.new ≡ over (blocks_bytes (normal (blocks_of mask))) out.old }
+    ensures { out.new ≡ over (blocks_bytes (normal (blocks_of mask.entry))) out.old }
 {
     for (i, block) in Joined::of(mask).enumerate() {
         records::write_block(out, 12 * i, block);
@@ -39,7 +39,7 @@ fn write_joined(mask: Mask, out: &mut [u8])
 // second writes them.
 pub(crate) fn write_tidied(mask: Mask, out: &mut [u8]) -> Result<u32, Refusal>
     requires { Fits 64 (blocks_of mask) }
-    ensures { Puts (tidy_record mask.bytes.now) out.old out.new result }
+    ensures { Puts (tidy_record mask.entry.bytes.now) out.old out.new result }
 {
     let count = Joined::of(mask).count();
     if out.len() < 6 + 12 * count {

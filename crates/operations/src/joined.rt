@@ -21,7 +21,7 @@ pub(crate) struct Joined<'a> {
 impl<'a> Joined<'a> {
     // All blocks of the normal form of a mask.
     pub(crate) fn of(mask: Mask<'a>) -> Joined<'a>
-        ensures { perhaps result.joiner.held result.blocks ≡ blocks_of mask }
+        ensures { perhaps result.joiner.held result.blocks ≡ blocks_of mask.entry }
     {
         Joined {
             blocks: mask.blocks(),

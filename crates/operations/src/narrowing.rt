@@ -58,6 +58,7 @@ fn conclude(
 }
 
 // Narrow on a book and the first `count` of the blocks, in lent room.
+#[tactic(auto, using(crate::proofs::Passing::passes_fit))]
 pub(crate) fn narrow_blocks(
     book: Book,
     blocks: &mut [Block],
@@ -67,7 +68,7 @@ pub(crate) fn narrow_blocks(
 ) -> Result<Narrowed, Refusal>
     requires fits { Fits book.table.letters (take count blocks.old) }
     requires lent { (uppers (take count blocks.old) + count ≤ length blocks.old) × (uppers (take count blocks.old) ≤ length sets.old) }
-    ensures { NarrowsGiven (automaton book) (take count blocks.old) out.old out.new result }
+    ensures { NarrowsGiven (automaton book.entry) (take count blocks.old) out.old out.new result }
 {
     let passed = propagator::pass(book, blocks, count, sets);
     let accepting = book.accepting;
@@ -85,8 +86,8 @@ pub(crate) fn narrow_sized<const MOST: usize, const ROOM: usize>(
     pair: Pair,
     out: &mut [u8],
 ) -> Result<Narrowed, Refusal>
-    requires { (length (blocks_of pair.mask) ≤ MOST) × (uppers (blocks_of pair.mask) ≤ MOST) × (MOST + MOST ≤ ROOM) }
-    ensures { NarrowsGiven (automaton pair.book) (blocks_of pair.mask) out.old out.new result }
+    requires { (length (blocks_of pair.mask) ≤ MOST) × (uppers (blocks_of pair.mask) ≤ MOST) × (MOST + MOST ≤ ROOM) × (ROOM ≤ 2048) }
+    ensures { NarrowsGiven (automaton pair.entry.book) (blocks_of pair.entry.mask) out.old out.new result }
 {
     let mut blocks = [Block::EMPTY; ROOM];
     let mut sets = [0u64; MOST];

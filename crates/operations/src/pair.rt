@@ -1,19 +1,21 @@
 // A book and a mask taken together: the checks that narrow, place and try begin with.
 ghost use Rattle.std.specs.Prelude.{◌≡◌};
+ghost use Rattle.std.proofs.Props.{props};
 ghost use Rattle.model.specs.Refusal.{accepted, refuse, unless};
 ghost use Rattle.model.specs.Set.{some_from};
 ghost use Rattle.model.specs.Size.{Fits};
 ghost use Rattle.records.specs.Mask.{mask_of, totals_of};
+ghost use Rattle.operations.specs.Props.{each_one};
 
 use model::Refusal;
 use records::{Book, Mask, Totals};
 
-// A book, and a mask with its totals whose letters are the book's.
+// A book, and a mask whose blocks fit a record with the book's letters, with its totals.
 #[derive(Clone, Copy)]
 pub(crate) struct Pair<'a> {
     pub book: Book<'a>,
     pub mask: Mask<'a>,
-    pub ghost fits: { Fits book.table.letters (mask_of mask.bytes.now) },
+    pub ghost fits: { Fits book.table.letters (mask_of mask.bytes.now) } by { Prim.hlevel (props, each_one) },
     pub ghost totals: { mask.totals ≡ totals_of (mask_of mask.bytes.now) },
 }
 
@@ -34,7 +36,7 @@ impl<'a> Pair<'a> {
 // Check 9, of a book and the totals of blocks.
 #[tactic(auto, unfolding(model::specs::Refusal::refuse))]
 pub(crate) fn check_letters(book: Book, totals: Totals) -> Result<(), Refusal>
-    ensures { result ≡ unless (refuse (some_from totals.used book.table.letters) Refusal.Foreign accepted) tt }
+    ensures { result ≡ unless (refuse (some_from totals.used book.entry.table.letters) Refusal.Foreign accepted) tt }
 {
     if records::some_foreign(totals, book.table.letters) {
         return Err(Refusal::Foreign);

@@ -11,8 +11,9 @@ use model::Block;
 use records::Mask;
 
 // Check 11: a block number of 0 or above the number of blocks, or a place above the block's lower bound.
+#[tactic(auto, unfolding(crate::specs::Placed::missing))]
 pub(crate) fn missing(mask: Mask, block: usize, place: usize) -> bool
-    ensures { result ≡ absent (blocks_of mask) block place }
+    ensures { result ≡ absent (blocks_of mask.entry) block place }
 {
     block == 0 || mask.len() < block || (mask.block(block - 1).lower as usize) < place
 }
@@ -20,7 +21,7 @@ pub(crate) fn missing(mask: Mask, block: usize, place: usize) -> bool
 // Where the entries of a block, from 0, begin in the narrowed list: each block before has l + 1 of them.
 fn first_entry(pair: Pair, block: usize) -> usize
     requires { block < length (blocks_of pair.mask) }
-    ensures { result ≡ begins (blocks_of pair.mask) block }
+    ensures { result ≡ begins (blocks_of pair.entry.mask) block }
 {
     pair.mask
         .blocks()
@@ -33,7 +34,7 @@ fn first_entry(pair: Pair, block: usize) -> usize
 fn entry_of(pair: Pair, block: usize, place: usize) -> usize
     requires block_there { block < length (blocks_of pair.mask) }
     requires place_there { place ≤ (block_at (blocks_of pair.mask) block).lower }
-    ensures { result ≡ entry_of (blocks_of pair.mask) block place }
+    ensures { result ≡ entry_of (blocks_of pair.entry.mask) block place }
 {
     let first = first_entry(pair, block);
     if place == 0 {
@@ -45,7 +46,7 @@ fn entry_of(pair: Pair, block: usize, place: usize) -> usize
 // The set and bounds of a block, from 1, and a place that are not missing.
 pub(crate) fn place_entry(pair: Pair, block: usize, place: usize) -> Block
     requires { absent (blocks_of pair.mask) block place ≡ false }
-    ensures { result ≡ placed (automaton pair.book) (blocks_of pair.mask) block place }
+    ensures { result ≡ placed (automaton pair.entry.book) (blocks_of pair.entry.mask) block place }
 {
     let entry = entry_of(pair, block - 1, place);
     if pair.mask.len() <= 64 && pair.mask.totals.uppers <= 64 {
@@ -56,10 +57,11 @@ pub(crate) fn place_entry(pair: Pair, block: usize, place: usize) -> Block
 
 // An entry of the narrowed list, or the empty block where no code is legal, in room for at most MOST blocks whose upper bounds
 // sum to at most MOST; ROOM is twice as much.
+#[tactic(auto, using(crate::proofs::Passing::passes_fit))]
 fn place_sized<const MOST: usize, const ROOM: usize>(pair: Pair, entry: usize) -> Block
     requires bound { entry < lower_sum (blocks_of pair.mask) + length (blocks_of pair.mask) }
-    requires room { (length (blocks_of pair.mask) ≤ MOST) × (uppers (blocks_of pair.mask) ≤ MOST) × (MOST + MOST ≤ ROOM) }
-    ensures { result ≡ entry_at (automaton pair.book) (blocks_of pair.mask) entry }
+    requires room { (length (blocks_of pair.mask) ≤ MOST) × (uppers (blocks_of pair.mask) ≤ MOST) × (MOST + MOST ≤ ROOM) × (ROOM ≤ 2048) }
+    ensures { result ≡ entry_at (automaton pair.entry.book) (blocks_of pair.entry.mask) entry }
 {
     let mut blocks = [Block::EMPTY; ROOM];
     let mut sets = [0u64; MOST];
