@@ -107,6 +107,7 @@ pub fn some_foreign(totals: Totals, letters: usize) -> bool
 }
 
 // Writes the six head bytes of a mask of `count` blocks over the first bytes of `out`.
+#[tactic(auto, using(crate::proofs::Stores::three_stored), unfolding(crate::specs::Written::head_bytes))]
 pub fn write_head(count: usize, out: &mut [u8])
     requires { 6 + 12 * count ≤ length out.old }
     ensures { out.new ≡ sets out.old 0 (head_bytes count) }
