@@ -9,7 +9,3 @@ pub passed_first : (r next : Option Refusal) → and_then r next ≡ accepted �
 passed_first None next h = (refl, h)
 passed_first (Some r) next h = cc
 
--- the same refusal, in place of another value
-pub same_refusal : {A B : Type 0} (o : Option Refusal) (x : A) (y : B) (r : Refusal) → Err r ≡ unless o x → Err r ≡ unless o y
-same_refusal None x y r e = cc
-same_refusal (Some s) x y r e = let same : r ≡ s = cc in rw same
