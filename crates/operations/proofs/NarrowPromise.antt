@@ -181,6 +181,11 @@ module _
 
 -- ---- beside
 
+-- what holds of a mask's blocks, copied, holds of the mask
+pub narrow_record_lem : (bs ms : List ℕ) (xs : List Block) → xs ≡ mask_of ms → mask_refusal ms ≡ accepted → (old new : List ℕ) (a : Result Narrowed Refusal)
+    → Narrows (record { book = bs; blocks = xs; failing = accepted }) old new a → Narrows (from_record bs ms) old new a
+narrow_record_lem bs ms xs e none old new a h = rw none (rw e at h)
+
 -- the refusal number at the host is that of the checks
 pub narrow_refusal_number : (g : Given) (room : ℕ) → (narrow_numbers (narrowed g room)).refusal ≡ option_map_or number (narrow_refusal g room) 0
 unfolding narrowed
