@@ -8,7 +8,7 @@ use native.Mathlib.Nat.{one-mul, pow-suc, le-div_iff_mul-le, lt_of_not-le, mod_s
 use native.Mathlib.Omega.{arith}
 use borrow.Author.Tests.{eq-eqb, eqb-true, eqb-false}
 use lib.Arith.{bin_ind}
-use lib.Bits.{bit_and, bit_xor, differ, and_step, xor_step, and_self, and_mask, and_shr, xor_shr, and_lt, and_le_l, xor_lt}
+use lib.Bits.{bit_and, bit_xor, differ, and_step, xor_step, and_self, and_mask, and_shr, xor_shr, and_lt, and_le_l, and_le_r, xor_lt}
 use lib.Count.{count_trailing_zeros, under}
 use lib.Dec.{T, T_not, eqb, leb, ltb, eqb→eq, eqb_refl, eqb-suc-zero, ltb→lt, leb→le, le→leb}
 use lib.Pow.{pow_pos, pow_mono, shr-shr}
@@ -19,10 +19,7 @@ use Rattle.bitset.specs.First.{First}
 
 -- tests that pass in the same cases are equal
 pub same_test : (a b : Bool) → (T a ↔ T b) → a ≡ b
-same_test true true h = refl
-same_test true false h = absurd (h.0 tt)
-same_test false true h = absurd (h.1 tt)
-same_test false false h = refl
+same_test a b h = grind arith
 
 -- the test for 0
 is_zero : (x : ℕ) → T (eqb x 0) ↔ (x ≡ 0)
@@ -165,7 +162,7 @@ has_cleared s t i =
     (digits (λ a b. eqb (differ a (min a b)) 1 ≡ (eqb a 1 && not (eqb b 1))) refl refl refl refl x y)
 
 -- what the code makes of two sets is their difference
-difference_test : (s t : ℕ) → s < 2 ^ 64 → t < 2 ^ 64 → bit_xor s (bit_and s t) ≡ difference s t
+pub difference_test : (s t : ℕ) → s < 2 ^ 64 → t < 2 ^ 64 → bit_xor s (bit_and s t) ≡ difference s t
 unfolding difference
 difference_test s t a b =
     same_members (bit_xor s (bit_and s t)) (difference s t) (xor_lt 64 s (bit_and s t) a (and_lt 64 s t a b)) (members_bytes s (λ j. not (has t j))) (λ i. (
@@ -176,10 +173,6 @@ difference_test s t a b =
           let (m, n) = (in_members s (λ j. not (has t j))).0 h in
           member m.small (rw has_cleared ((T_and (has s i) (not (has t i))).1 (m.there, n))),
     ))
-
--- the same, of what is in both, which is given by an equation
-pub difference_is : (s t r : ℕ) → s < 2 ^ 64 → t < 2 ^ 64 → r ≡ both s t → bit_xor s r ≡ difference s t
-difference_is s t r a b e = rw e (difference_test s t a b)
 
 -- ---- without the least member
 
@@ -239,6 +232,10 @@ without_first_lem s b h i first =
           let (t, n) = (in_difference s (2 ^ i)).0 m in
           member t.small ((shared j).1 (t.there, λ e. n (rw e (one_in there.small)))),
     ))
+
+-- and it is less than the set
+pub without_first_less : (s : ℕ) → 0 < s → bit_and s (s - 1) < s
+without_first_less s h = omega (arith, and_le_r s (s - 1))
 
 -- ---- members from k on
 

@@ -1,19 +1,20 @@
 -- The members of a set as a list: which they are, in which order, and what is left without the first.
 -- Assumes nothing.
-use mathlib.Core.Path.{◌≡◌, refl, sym, ap, ap₂, ◌∙◌}
+use mathlib.Core.Path.{◌≡◌, refl, ap, ap₂, ◌∙◌}
 use mathlib.Core.Logic.{◌↔◌, ◌⊎◌, inl, inr, ⊎_elim}
 use mathlib.Core.Bool.{Bool, true, false, cond, ◌&&◌, ◌||◌}
 use mathlib.Core.List.{List, [], ◌∷◌, ◌++◌}
 use Prim.Native.Nat.{ℕ, zero, suc, ◌+◌, ◌-◌, ◌^◌, ◌≤◌, ◌<◌}
 use native.Mathlib.Omega.{arith}
 use lib.Dec.{T}
-use lib.ListN.{length, get_or, drop}
+use lib.ListN.{length, get_or}
+use Rattle.std.proofs.Common.{add-one}
 use Rattle.std.specs.Prelude.{filter, Contains, fold}
 use Rattle.std.specs.List.{range_with_len, list_any}
 use Rattle.std.specs.List.Sorted.{IsStrictlyIncreasing}
-use Rattle.std.proofs.lemmas.List.Elements.{filter-append}
+use Rattle.std.proofs.lemmas.List.{map-id}
 use Rattle.std.proofs.lemmas.List.Folds.{list_any-append}
-use Rattle.std.proofs.lemmas.List.FromFn.{length-range_with_len, get_or-range_with_len}
+use Rattle.std.proofs.lemmas.List.FromFn.{filter_of_map_range_with_len_more, length-range_with_len, get_or-range_with_len}
 use Rattle.std.proofs.lemmas.List.Kept.{IsStrictlyIncreasing-filter}
 use Rattle.std.proofs.lemmas.List.Sums.{fold-append}
 use Rattle.model.specs.Set.{has, Member, either, some_below, union_below, some_member, members, union_of}
@@ -21,7 +22,7 @@ use Rattle.model.proofs.Set.{member, in_one, one_in, in_either}
 use Rattle.bitset.specs.Difference.{difference}
 use Rattle.bitset.specs.First.{First}
 use Rattle.bitset.specs.Listed.{listed}
-use Rattle.bitset.proofs.Laws.{same_test, same_members, bit_member, trailing_first, in_difference, difference_bytes}
+use Rattle.bitset.proofs.Laws.{same_test, bit_member, in_difference, difference_bytes}
 
 -- the n numbers from a on that pass the test
 abbrev among : (ℕ → Bool) → ℕ → ℕ → List ℕ
@@ -77,11 +78,6 @@ listed_increasing s =
     IsStrictlyIncreasing-filter (has s) (range_with_len 0 64)
     (λ k l. omega (arith, get_or-range_with_len 0 64 k 0 (omega (arith, length-range_with_len 0 64)), get_or-range_with_len 0 64 (k + 1) 0 (omega (arith, length-range_with_len 0 64))))
 
--- sets with the same list are equal
-listed_same : (s t : ℕ) → s < 2 ^ 64 → t < 2 ^ 64 → listed s ≡ listed t → s ≡ t
-listed_same s t a b e =
-    same_members s t a b (λ i. (λ m. (in_listed t i).0 (rw e at ((in_listed s i).1 m)), λ m. (in_listed s i).0 (rw e ((in_listed t i).1 m))))
-
 -- ---- the first of them
 
 -- the empty set has none
@@ -128,38 +124,16 @@ listed_first s i t small first e =
     among_first (has s) (has t) i first.member.there (λ j h. first.least j (bit_member s j small h)) (without s i t small first.member.small e) 64 0
     (omega arith) (omega (arith, first.member.small))
 
--- what comes first is the least member, and what is left is the set without it
-pub listed_next : (s t x : ℕ) → s < 2 ^ 64 → t < 2 ^ 64 → listed s ≡ x ∷ listed t → First x s × (t ≡ difference s (2 ^ x))
-listed_next zero t x a b e = absurd (omega (arith, ap length (sym listed_none ∙ e)))
-listed_next (suc s) t x a b e = go (trailing_first (suc s) a (omega arith))
-  where
-    go : {i : ℕ} → First i (suc s) → First x (suc s) × (t ≡ difference (suc s) (2 ^ x))
-    go {i} first =
-        let both = sym (listed_first (suc s) i (difference (suc s) (2 ^ i)) a first refl) ∙ e in
-        let same : i ≡ x = ap (λ xs. get_or xs 0 0) both in
-        let left : difference (suc s) (2 ^ i) ≡ t = listed_same (difference (suc s) (2 ^ i)) t (difference_bytes (suc s) (2 ^ i)) b (ap (drop 1) both) in
-        (rw same at first, rw same at (sym left))
-
 -- ---- what is made of them all
-
--- one number more
-range_more : (a n j : ℕ) → a + n ≡ j → range_with_len a (suc n) ≡ range_with_len a n ++ j ∷ []
-range_more a zero j e = ap (λ x. x ∷ []) (omega arith)
-range_more a (suc n) j e = ap (λ xs. a ∷ xs) (range_more (a + 1) n j (omega arith))
 
 -- the numbers below n + 1 that pass
 among_more : (p : ℕ → Bool) (n : ℕ) → among p 0 (suc n) ≡ among p 0 n ++ filter p (n ∷ [])
-among_more p n = ap (filter p) (range_more 0 n n (omega arith)) ∙ filter-append p (range_with_len 0 n) (n ∷ [])
+among_more p n = rw add-one at (simp map-id at (filter_of_map_range_with_len_more p (λ x. x) 0 n n (omega arith)))
 
 -- those that pass a second test too
 filter_twice : (p q : ℕ → Bool) (xs : List ℕ) → filter q (filter p xs) ≡ filter (λ i. p i && q i) xs
 filter_twice p q [] = refl
-filter_twice p q (x ∷ xs) = go (p x) (filter_twice p q xs)
-  where
-    go : (v : Bool) → filter q (filter p xs) ≡ filter (λ i. p i && q i) xs
-        → filter q (cond v (x ∷ filter p xs) (filter p xs)) ≡ cond (v && q x) (x ∷ filter (λ i. p i && q i) xs) (filter (λ i. p i && q i) xs)
-    go true e = ap (λ ys. cond (q x) (x ∷ ys) ys) e
-    go false e = e
+filter_twice p q (x ∷ xs) = grind (arith, filter_twice p q xs)
 
 -- some number below n that passes the first test passes the second
 any_below : (p q : ℕ → Bool) (n : ℕ) → list_any q (among p 0 n) ≡ some_below n (λ i. p i && q i)

@@ -34,6 +34,7 @@ impl Iterator for Members {
 
     ghost remaining = { item_count listed };
 
+    #[tactic(auto, using(crate::proofs::Listed::listed_none, crate::proofs::Listed::listed_first))]
     fn next(&mut self) -> Option<usize> {
         if self.0 == 0 {
             return None;

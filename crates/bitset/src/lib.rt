@@ -9,6 +9,7 @@ ghost use Rattle.bitset.specs.Difference as spec;
 ghost use Rattle.bitset.specs.First.{First};
 
 // `i` is in `set`.
+#[tactic(auto, unfolding(model::specs::Set::has))]
 pub fn has(set: u64, i: usize) -> bool
     requires { i < 64 }
     ensures { result ≡ member set i }
@@ -39,6 +40,7 @@ pub fn intersection(a: u64, b: u64) -> u64
 }
 
 // What is in `a` and not in `b`.
+#[tactic(auto, using(crate::proofs::Laws::difference_test))]
 pub fn difference(a: u64, b: u64) -> u64
     ensures { result ≡ spec.difference a b }
 {
@@ -46,6 +48,7 @@ pub fn difference(a: u64, b: u64) -> u64
 }
 
 // The least member of `set`.
+#[tactic(auto, using(crate::proofs::Laws::trailing_first))]
 pub fn first_member(set: u64) -> usize
     requires { 0 < set }
     ensures { First result set }
@@ -54,6 +57,7 @@ pub fn first_member(set: u64) -> usize
 }
 
 // `set` without its least member.
+#[tactic(auto, using(crate::proofs::Laws::without_first_lem, crate::proofs::Laws::without_first_less))]
 pub fn without_first(set: u64) -> u64
     requires { 0 < set }
     ensures { ((i : ℕ) → First i set → result ≡ spec.difference set (2 ^ i)) × (result < set) }
@@ -69,6 +73,7 @@ pub fn members(set: u64) -> iter::Members
 }
 
 // `set` has exactly one member.
+#[tactic(auto, using(crate::proofs::Laws::one_member_test), unfolding(model::specs::Set::some_below, model::specs::Set::one_member))]
 pub fn one_member(set: u64) -> bool
     ensures { result ≡ one_member set }
 {
@@ -76,6 +81,7 @@ pub fn one_member(set: u64) -> bool
 }
 
 // Some member of `set` is `k` or above.
+#[tactic(auto, using(crate::proofs::Laws::some_from_test, crate::proofs::Laws::some_from_past))]
 pub fn some_from(set: u64, k: usize) -> bool
     ensures { result ≡ some_from set k }
 {

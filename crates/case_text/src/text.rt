@@ -16,7 +16,7 @@ pub fn split_at(text: &[u8], byte: u8) -> (&[u8], &[u8])
 }
 
 // The number that decimal digits say; none for text that is no number below 100,000.
-#[tactic(auto, using(crate::proofs::Decimal::digits_of_decimal, crate::proofs::Decimal::text_of_decimal, crate::proofs::Decimal::parse_of_decimal))]
+#[tactic(auto, using(crate::proofs::Decimal::decimals))]
 pub fn number(digits: &[u8]) -> Option<u32>
     ensures below { IfSome result (λ n. n < 100000) }
     ensures shown { (n : ℕ) → n < 100000 → digits.now ≡ decimal n → result ≡ Some n }

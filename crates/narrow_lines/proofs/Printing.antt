@@ -1,7 +1,7 @@
 -- The loop that prints the lines: what is printed so far, and what remains for the bytes held and those that come.
-use Rattle.std.proofs.Common.{◌≡◌, ℕ, Bool, List, [], ◌++◌, take, drop, Option, None, Some, refl, ◌∙◌, sym, ap, subst, append-nil, append_assoc}
+use Rattle.std.proofs.Common.{◌≡◌, ℕ, Bool, List, ◌++◌, take, drop, Option, None, Some, refl, ◌∙◌, sym, ap, subst, append-nil, append_assoc}
 use Rattle.std.specs.Io.KnownBytes.{Appends, Consumes}
-use Rattle.std.proofs.KnownBytes.{Appends-nil, Appends-trans}
+use Rattle.std.proofs.KnownBytes.{Appends-trans}
 use Rattle.lines.specs.declared.Pause.{Pause}
 use Rattle.lines.specs.declared.Pause.TheVariants.{Full, More, Done}
 use Rattle.lines.specs.declared.Progress.{Progress}
@@ -22,13 +22,6 @@ pub record Owes (bs : List ℕ) (n₀ : ℕ) (held₀ xs : List ℕ) (w₀ : Opt
 pub record Going (bs : List ℕ) (n₀ : ℕ) (held₀ : List ℕ) (a₀ w₀ : Option (List ℕ)) (n : ℕ) (held : List ℕ) (ended : Bool) (a w : Option (List ℕ)) : Type 0 where
   pub ends : Ends ended a
   pub owes : (xs : List ℕ) → a₀ ≡ Some xs → Owes bs n₀ held₀ xs w₀ n held a w
-
--- at first nothing is printed
-pub going_first : (bs : List ℕ) (n : ℕ) (held : List ℕ) (ended : Bool) (a w : Option (List ℕ)) → Ends ended a → Going bs n held a w n held ended a w
-going_first bs n held ended a w e = record {
-  ends = e;
-  owes = λ xs is. record { left = xs; left_is = is; text = []; printed = Appends-nil w; lines = refl };
-}
 
 -- what a read leaves of known bytes
 lost : (b : Option (List ℕ)) (ys more : List ℕ) → Consumes (Some ys) b more → (zs : List ℕ) × (b ≡ Some zs) × (ys ≡ more ++ zs)

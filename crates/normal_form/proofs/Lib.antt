@@ -1,4 +1,2 @@
--- Laws of the steps, and what the loop keeps; the proofs of functions stand in folders of their names.
-pub mod Steps
+-- Laws that the loop cites; the proofs of functions stand in folders of their names.
 pub mod Turns
-pub mod Joins

@@ -26,6 +26,7 @@ impl Joiner {
     }
 
     // Takes a block, and gives the one that it held back where no other can join that.
+    #[tactic(auto, unfolding(model::specs::NormalForm::normal, model::specs::NormalForm::dropped, model::specs::NormalForm::joined, model::specs::NormalForm::join))]
     pub fn take(&mut self, block: Block) -> Option<Block>
         requires { Room 64 (perhaps self.old.held (block ∷ [])) }
         ensures made { (xs : List Block) → normal (perhaps self.old.held (block ∷ xs)) ≡ perhaps result (normal (perhaps self.new.held xs)) }
@@ -46,6 +47,7 @@ impl Joiner {
     }
 
     // Gives the block that it holds back, when there is no other to take, and holds none then.
+    #[tactic(auto, unfolding(model::specs::NormalForm::normal, model::specs::NormalForm::dropped, model::specs::NormalForm::joined, model::specs::NormalForm::join))]
     pub fn end(&mut self) -> Option<Block>
         ensures made { perhaps result [] ≡ normal (perhaps self.old.held []) }
         ensures none { self.new.held ≡ None }

@@ -15,7 +15,7 @@ use model::Block;
 
 // Makes the normal form of the blocks, from the last to the first. It stands at their end: from the entry whose number is
 // returned on.
-#[tactic(auto, using(crate::proofs::Turns::normal_none, crate::proofs::Turns::room_normal))]
+#[tactic(auto, using(crate::proofs::Turns::room_at, crate::proofs::Turns::room_normal), unfolding(model::specs::NormalForm::normal, model::specs::NormalForm::dropped, model::specs::NormalForm::joined))]
 pub fn normalize(blocks: &mut [Block]) -> usize
     requires { Room 64 blocks.old }
     ensures { (result ≤ length blocks.old) × (length blocks.new ≡ length blocks.old) × (drop result blocks.new ≡ normal blocks.old) }
@@ -28,6 +28,7 @@ pub fn normalize(blocks: &mut [Block]) -> usize
 }
 
 // Puts block `i` in front of the normal form in the entries from `at` on, and returns where that begins then.
+#[tactic(auto, unfolding(model::specs::NormalForm::join))]
 fn push(blocks: &mut [Block], i: usize, at: usize) -> usize
     requires order { (i < at) × (at ≤ length blocks.old) }
     requires own { Room 64 (block_at blocks.old i ∷ []) }

@@ -14,7 +14,7 @@ pub enum Next {
 }
 
 // What stands next in a stream of just these bytes.
-#[tactic(auto, unfolding(crate::specs::Stream::next))]
+#[tactic(auto, using(records::proofs::Numbers::number_lt), unfolding(crate::specs::Stream::next))]
 pub fn next_record(bytes: &[u8]) -> Next
     ensures stands { result ≡ next bytes.now }
     ensures few { Unsettled result → length bytes.now < 65535 }
@@ -31,6 +31,7 @@ pub fn next_record(bytes: &[u8]) -> Next
 }
 
 // Moves the bytes from `taken` up to `held` to the start, and returns how many they are.
+#[tactic(auto, using(std::proofs::lemmas::Grind::common_steps, std::proofs::lemmas::Slice::between_is))]
 pub fn shift(bytes: &mut [u8], taken: usize, held: usize) -> usize
     requires { (taken ≤ held) × (held ≤ length bytes.old) }
     ensures { (result ≡ held - taken) × (take result bytes.new ≡ drop taken (take held bytes.old)) }

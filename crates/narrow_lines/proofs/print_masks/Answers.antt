@@ -1,8 +1,7 @@
 -- Each turn prints the first of the lines that are owed, and goes on with those of what is held then.
-use Rattle.std.proofs.Common.{◌≡◌, ◌∙◌, ap, IsOk}
+use Rattle.std.proofs.Common.{◌≡◌, ◌∙◌, ap, arith}
 use Rattle.narrow_lines.specs.declared.input.Input.{Input}
-use Rattle.narrow_lines.specs.Held.{held}
-use Rattle.narrow_lines.proofs.Reading.{not_ended}
+use Rattle.narrow_lines.specs.Held.{held, NoFailure}
 use Rattle.narrow_lines.proofs.Printing.{going_on, going_read, last, prints}
 use Rattle.narrow_lines.proofs.print_masks.Goals as goal
 use Rattle.narrow_lines.proofs.print_masks.Goals.{in-Full, in-More}
@@ -27,7 +26,7 @@ loop-preserved g c =
                 (going_on _ _ _ _ _ _ _ _ _ _ _ _ _ going step c.in_ok-write_all.ensures.bytes (λ done. cc (done, w.in-Full.is)));
           }
       | in-More w ↦
-          let sound = not_ended c.loop.input.end (λ r. IsOk r) (rw w.in-More.is at step.why).0 in
+          let sound : NoFailure c.loop.input = grind (arith, (rw w.in-More.is at step.why).0) in
           let reads = w.read_from.ensures in
           record {
             sound = λ _. c.loop.invariant.sound sound;

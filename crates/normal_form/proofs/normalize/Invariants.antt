@@ -9,7 +9,6 @@ invariant-loop-i l =
     record {
       behind : l.i ≤ l.at;
       within : l.at ≤ length l.blocks;
-      size : length l.blocks ≡ length first.blocks;
       before : (j : ℕ) → j < l.i → block_at l.blocks j ≡ block_at first.blocks j;
       made : drop l.at l.blocks ≡ normal (drop l.i first.blocks);
     }
