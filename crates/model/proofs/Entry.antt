@@ -23,10 +23,6 @@ length_along zero p = refl
 length_along (suc l) [] = grind (arith, length_along l [])
 length_along (suc l) (c ∷ p) = grind (arith, length_along l p)
 
--- and a block l + 1 segments
-length_segments : (x : Block) → length (segments_of x) ≡ suc x.lower
-length_segments = grind (arith, common_steps)
-
 -- behind the l + 1 entries of a block come those of the others
 get_or_skip {ℓ} : {A : Type ℓ} (l a j : ℕ) (xs ys : List A) (d : A) → length xs ≡ suc l → get_or (xs ++ ys) (suc (l + a) + j) d ≡ get_or ys (a + j) d
 get_or_skip l a j xs ys d e = let same : suc (l + a) + j ≡ length xs + (a + j) = omega arith in rw (same, get_or-append-add)
