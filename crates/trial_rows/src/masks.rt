@@ -14,13 +14,12 @@ pub fn mask(out: &mut impl Write, bytes: &[u8]) -> io::Result<()> {
 }
 
 // Writes each block.
-#[tactic(auto, using(records::proofs::Offsets::blocks_counted))]
 fn blocks(out: &mut impl Write, mask: Mask) -> io::Result<()> {
-    for (i, item) in mask.blocks().enumerate() {
-        if 0 < i {
-            out.write_all(b", ")?;
-        }
+    let mut between: &[u8] = b"";
+    for item in mask.blocks() {
+        out.write_all(between)?;
         block(out, item)?;
+        between = b", ";
     }
     Ok(())
 }
@@ -34,11 +33,11 @@ pub fn block(out: &mut impl Write, block: Block) -> io::Result<()> {
 
 // Writes the letters of a set.
 fn letters(out: &mut impl Write, set: u64) -> io::Result<()> {
-    for (i, letter) in bitset::members(set).enumerate() {
-        if 0 < i {
-            out.write_all(b",")?;
-        }
+    let mut between: &[u8] = b"";
+    for letter in bitset::members(set) {
+        out.write_all(between)?;
         write!(out, "{letter}")?;
+        between = b",";
     }
     Ok(())
 }
