@@ -1,7 +1,7 @@
 -- The book that an input begins with, whatever comes later.
 -- Assumes nothing.
 use Prim.Native.Nat.{ℕ, ◌*◌, ◌≤◌}
-use mathlib.Core.Path.{◌≡◌, refl, sym, ◌∙◌}
+use mathlib.Core.Path.{◌≡◌, refl, ◌∙◌}
 use mathlib.Core.Bool.{Bool}
 use mathlib.Core.List.{List, ◌++◌, append-nil}
 use native.Mathlib.Nat.{mul-le-mul}
@@ -10,12 +10,12 @@ use lib.ListN.{length, take, drop}
 use lib.Seq.{take-append-le, drop-append-le, length-take-le}
 use Rattle.std.specs.Result.{result_map_both}
 use Rattle.std.specs.Prelude.{Result, T, Some, Ok, Err}
-use Rattle.records.specs.declared.Book as records
 use Rattle.model.specs.declared.Refusal.{Refusal}
 use Rattle.model.specs.declared.Refusal.TheVariants.{Unframed}
 use Rattle.model.specs.Refusal.{accepted}
-use Rattle.records.specs.Book.{book_head, book_refusal, read_book}
-use Rattle.records.proofs.Answers.{book_accepted, book_refused}
+use Rattle.records.specs.declared.book.Book.{Book}
+use Rattle.records.specs.Book.{book_head, book_refusal}
+use Rattle.records.specs.Read.{ReadsBook}
 use Rattle.records.proofs.WellFormed.{book_record}
 use Rattle.stream.specs.declared.Next.{Next}
 use Rattle.stream.specs.declared.Next.TheVariants.{Whole, Short, Cut, End}
@@ -34,8 +34,12 @@ book_few bs h =
     omega (arith, it.size, few)
 
 -- a refused book's line is all that is printed
-pub taken_refused : (bs lines : List ℕ) (r : Refusal) → read_book bs ≡ Err r → book_line_or (book_refusal bs) lines ≡ book_line r
-taken_refused bs lines r e = rw (book_refused bs r e) refl
+pub taken_refused : (bs lines : List ℕ) (r : Refusal) → ReadsBook bs (Err r) → book_line_or (book_refusal bs) lines ≡ book_line r
+taken_refused bs lines r e = rw e
+
+-- a whole record lies within the input
+pub whole_within : (input : List ℕ) (k : ℕ) → Whole k ≡ next input → length (take k input) ≡ k
+whole_within input k e = let (_, _, _, fits) = tell input (Whole k) e in length-take-le k input fits
 
 module _ (input : List ℕ) (ended : Bool) where
   -- a whole record
@@ -47,13 +51,15 @@ module _ (input : List ℕ) (ended : Bool) where
         let (_, _, _, fits) = tell input (Whole k) whole in
         rw (← whole_behind input later k whole, take-append-le k input later fits, drop-append-le k input later fits)
 
+    pub opens_refused : (r : Refusal) → ReadsBook (take k input) (Err r) → Opens input ended (Err r)
+    opens_refused r e later h = settled later ∙ taken_refused _ _ r e
+
     -- a book, or its refusal
-    pub opens_whole : (got : Result records.Book Refusal) → got ≡ read_book (take k input) → Opens input ended (result_map_both (λ _. Some k) (λ r. r) got)
-    opens_whole (Ok b) e =
+    pub opens_whole : (got : Result Book Refusal) → ReadsBook (take k input) got → Opens input ended (result_map_both (λ _. Some k) (λ r. r) got)
+    opens_whole (Ok b) (none, _) =
         let (_, _, _, fits) = tell input (Whole k) whole in
-        let none = (book_accepted _ b (sym e)).0 in
-        (fits, omega (arith, book_few _ none, length-take-le k input fits), λ later. settled later ∙ rw none)
-    opens_whole (Err r) e = λ later h. settled later ∙ taken_refused _ _ r (sym e)
+        (fits, omega (arith, book_few _ none, whole_within input k whole), λ later. settled later ∙ rw none)
+    opens_whole (Err r) e = opens_refused r e
 
   -- no whole book: its line is refusal 1
   pub opens_short : Short ≡ next input → Opens input ended (Err Unframed)

@@ -7,6 +7,7 @@ use model::Refusal;
 use stream::Next;
 
 // How many bytes the book has that `input` begins with, or its refusal; `None` where more input is wanted.
+#[tactic(auto, using(crate::proofs::Openings::whole_within, crate::proofs::Openings::opens_refused))]
 pub fn open(input: Part) -> Result<Option<usize>, Refusal>
     ensures { Opens input.entry.bytes.now input.entry.ended result }
 {
