@@ -1,6 +1,6 @@
 -- The numbers of the entries of the narrowed list.
 -- Assumes nothing.
-use Prim.Native.Nat.{ℕ, zero, suc, ◌+◌, ◌-◌, ◌*◌, ◌^◌, ◌≤◌, ◌<◌}
+use Prim.Native.Nat.{ℕ, zero, suc, ◌+◌, ◌-◌, ◌^◌, ◌≤◌, ◌<◌}
 use mathlib.Core.Path.{◌≡◌, refl}
 use mathlib.Core.List.{List, [], ◌∷◌, map}
 use native.Mathlib.Omega.{arith}
@@ -8,14 +8,10 @@ use lib.ListN.{length, take}
 use Rattle.std.specs.List.{sum, sum_by}
 use Rattle.std.proofs.lemmas.List.Sums.{sum-map, sum_by-cons}
 use Rattle.model.specs.declared.Block.{Block}
-use Rattle.model.specs.Refusal.{accepted}
 use Rattle.model.specs.DashedString.{block_at}
 use Rattle.model.specs.Place.{begins, entry_of}
-use Rattle.model.specs.Size.{lower_sum}
-use Rattle.records.specs.Mask.{count, mask_of, mask_refusal}
-use Rattle.records.proofs.Offsets.{blocks_counted}
-use Rattle.records.proofs.WellFormed.{mask_record}
-use Rattle.propagator.proofs.Rows.{sum_uppers}
+use Rattle.model.specs.Size.{Fits, lower_sum}
+use Rattle.operations.proofs.Passing.{passes_fit}
 
 -- a block's entries lie within the list
 begins_within : (xs : List Block) (i : ℕ) → i < length xs → begins xs i + suc (block_at xs i).lower ≤ lower_sum xs + length xs
@@ -29,7 +25,7 @@ pub entry_within : (xs : List Block) (i j : ℕ) → i < length xs → j ≤ (bl
 entry_within xs i zero h l = omega (arith, begins_within xs i h)
 entry_within xs i (suc j) h l = omega (arith, begins_within xs i h)
 
--- ---- counting the entries of the blocks of a mask
+-- ---- counting the entries of blocks
 
 -- the entries of a block: its places, and its optional part
 abbrev pub entries_of : Block → ℕ
@@ -42,30 +38,25 @@ begins_sum [] (suc i) = refl
 begins_sum (x ∷ xs) zero = refl
 begins_sum (x ∷ xs) (suc i) = omega (arith, sum_by-cons entries_of x (take i xs), begins_sum xs i)
 
--- a mask that is not refused
-module _ (ms : List ℕ) (none : mask_refusal ms ≡ accepted) where
-  -- holds the bytes of its blocks
-  pub mask_long : 6 + 12 * count ms ≤ length ms
-  mask_long = omega (arith, (mask_record ms none).size)
-
+-- blocks that fit
+module _ (m : ℕ) (xs : List Block) (fits : Fits m xs) where
   -- block i, and how many entries the blocks before it have
-  module _ (i first : ℕ) (x : Block) (h : i < count ms) (begin : first ≡ begins (mask_of ms) i) (is : x ≡ block_at (mask_of ms) i) where
+  module _ (i first : ℕ) (x : Block) (h : i < length xs) (begin : first ≡ begins xs i) (is : x ≡ block_at xs i) where
     -- with its own these are few
     pub entries_few : first + (x.lower + 1) ≤ 2048
     entries_few =
-        let r = mask_record ms none in
-        let inside = rw (← begin, ← is) at (begins_within (mask_of ms) i (omega (arith, blocks_counted ms))) in
-        omega (arith, inside, blocks_counted ms, sum_uppers (mask_of ms) r.bounds, r.few, r.sum)
+        let inside = rw (← begin, ← is) at (begins_within xs i h) in
+        omega (arith, inside, (passes_fit m xs fits).0, fits.few, fits.room.sum)
 
     -- the optional part is behind its places
-    pub optional_entry : (j : ℕ) → j ≡ 0 → first + x.lower ≡ entry_of (mask_of ms) i j
+    pub optional_entry : (j : ℕ) → j ≡ 0 → first + x.lower ≡ entry_of xs i j
     optional_entry j z = rw (z, begin, is)
 
--- where the entries of a block begin is a small number
-pub begins_few : (ms : List ℕ) → mask_refusal ms ≡ accepted → (i : ℕ) → i < count ms → sum (map entries_of (take i (mask_of ms))) < 2 ^ 64
-begins_few ms none i h =
-    let few = entries_few ms none i _ _ h refl refl in
-    rw (sum-map entries_of (take i (mask_of ms)), begins_sum) (omega (arith, few))
+  -- where the entries of a block begin is a small number
+  pub begins_few : (i : ℕ) → i < length xs → sum (map entries_of (take i xs)) < 2 ^ 64
+  begins_few i h =
+      let few = entries_few i _ _ h refl refl in
+      rw (sum-map entries_of (take i xs), begins_sum) (omega (arith, few))
 
 -- the entry of a place
 pub mandatory_entry : (xs : List Block) (i first j : ℕ) → first ≡ begins xs i → ¬ (j ≡ 0) → first + (j - 1) ≡ entry_of xs i j

@@ -5,8 +5,6 @@ use Rattle.std.specs.Iterator.{YieldsFirst, item_count, MakesProgress, Drains}
 use Rattle.std.proofs.lemmas.Iterator.Consumers.{YieldsList-from_first, count_from_yields_List}
 use Rattle.model.specs.NormalForm.{normal}
 use Rattle.model.proofs.Room.{normal_shorter}
-use Rattle.records.specs.Mask.{count, mask_of}
-use Rattle.records.proofs.Offsets.{blocks_counted}
 use Rattle.operations.specs.declared.joined.Joined.{Joined}
 use Rattle.model.specs.declared.Block.{Block}
 use Rattle.normal_form.specs.Joining.{perhaps}
@@ -31,12 +29,12 @@ module _ {S : Type 0} (rest : S → List Block) (s : S) (r : Option Block) (t : 
 abbrev pub to_come : Joined → List Block
 to_come s = normal (perhaps s.joiner.held s.blocks)
 
--- all blocks of a mask's normal form are still to come
-module _ (ms : List ℕ) (s : Joined) (all : perhaps s.joiner.held s.blocks ≡ mask_of ms) where
-  -- they are no more than the mask's
-  pub joined_few : length (to_come s) ≤ count ms
-  joined_few = rw all (omega (arith, normal_shorter (mask_of ms), blocks_counted ms))
+-- all blocks of the normal form are still to come
+module _ (xs : List Block) (s : Joined) (all : perhaps s.joiner.held s.blocks ≡ xs) where
+  -- they are no more than the blocks
+  pub joined_few : length (to_come s) ≤ length xs
+  joined_few = rw all (normal_shorter xs)
 
   -- so many come
-  pub joined_counted : (r : ℕ) → ((xs : List Block) × Drains (YieldsFirst to_come) s xs × (r ≡ length xs)) → r ≡ length (normal (mask_of ms))
-  joined_counted r ran = count_from_yields_List s r ran (YieldsList-from_first (λ x. x) to_come (normal (mask_of ms)) (ap normal all))
+  pub joined_counted : (r : ℕ) → ((ys : List Block) × Drains (YieldsFirst to_come) s ys × (r ≡ length ys)) → r ≡ length (normal xs)
+  joined_counted r ran = count_from_yields_List s r ran (YieldsList-from_first (λ x. x) to_come (normal xs) (ap normal all))

@@ -1,100 +1,100 @@
 -- A mask that is lent as a list of blocks: its own checks, and what narrow promises of it.
 -- Assumes nothing.
-use Prim.Native.Nat.{ℕ, ◌≤◌, ◌<◌}
-use Rattle.std.proofs.Common.{Some, Result, Ok, Err}
-use mathlib.Core.Path.{◌≡◌, ap, ◌∙◌, sym}
-use mathlib.Core.List.{List, ◌++◌}
-use borrow.Author.Tests.{lt-ltb, le-ltb}
-use lib.ListN.{length, take, drop, length-append, length-drop}
-use native.Mathlib.Omega.{arith}
-use lib.Seq.{take_at}
+use Rattle.std.proofs.Common.{◌≡◌, ℕ, ◌+◌, ◌^◌, ◌≤◌, ◌<◌, Some, Result, Ok, Err, List, [], ◌∷◌, ◌++◌, length, take, drop, ap, refl, ◌∙◌, arith, length-append, length-drop, lt-ltb, le-ltb}
+use Rattle.std.proofs.lemmas.Nat.{le_or_l, le_or_r}
 use Rattle.model.specs.declared.Block.{Block}
 use Rattle.model.specs.declared.Refusal.{Refusal}
 use Rattle.model.specs.declared.Refusal.TheVariants.{OutOfRange, Foreign}
-use Rattle.model.specs.Refusal.{accepted, refuse, unless}
-use Rattle.model.specs.Set.{some_from}
-use Rattle.records.specs.declared.Book.{Book}
-use Rattle.records.specs.declared.Mask.{Mask}
-use Rattle.records.specs.Book.{read_book}
-use Rattle.records.specs.Mask.{blocks_refusal, numbers_of, read_blocks}
-use Rattle.records.proofs.Answers.{book_accepted}
-use Rattle.records.proofs.Checks.{on, off}
+use Rattle.model.specs.Refusal.{accepted, refuse}
+use Rattle.model.specs.Set.{either, some_from}
+use Rattle.model.specs.DashedString.{Each}
+use Rattle.model.specs.Size.{Fits, uppers}
+use Rattle.records.specs.declared.Totals.{Totals}
+use Rattle.records.specs.declared.book.Book.{Book}
+use Rattle.records.specs.Mask.{blocks_refusal, totals_of, with_letters, read_blocks}
+use Rattle.records.specs.Read.{automaton, ReadsBook}
+use Rattle.records.proofs.Answers.{unless_ok, unless_err}
+use Rattle.records.proofs.Checks.{on, off, peel}
+use Rattle.records.proofs.Taking.{used_foreign}
+use Rattle.records.proofs.WellFormed.{Wide, blocks_fit}
 use Rattle.operations.specs.declared.Narrowed.{Narrowed}
-use Rattle.operations.specs.declared.pair.Pair.{Pair}
-use Rattle.operations.specs.Pair.{list_refusal, from_list, given_refusal, read_given, Ready}
-use Rattle.operations.specs.Passes.{Lent}
-use Rattle.operations.specs.Narrow.{Narrows}
-use Rattle.operations.proofs.Pairs.{refused_book, refused_mask, read_both, given_accepted, given_checks}
-use Rattle.operations.proofs.Passing.{few_blocks}
+use Rattle.operations.specs.Pair.{list_refusal, from_list, given_refusal}
+use Rattle.operations.specs.Narrow.{Narrows, NarrowsGiven}
+use Rattle.operations.proofs.Pairs.{refused_book, refused_mask, letters_decide}
+use Rattle.operations.proofs.Passing.{first_copied}
 use Rattle.operations.proofs.NarrowPromise.{narrow_refused}
 
--- a list of at most 1,024 blocks
-module _ (bs : List ℕ) (xs : List Block) (few : length xs ≤ 1024) where
+-- the letters that some set has are a number of 8 bytes, and so each set is
+wide_sets : (s : ℕ) (xs : List Block) → with_letters s xs < 2 ^ 64 → (s ≤ with_letters s xs) × Each Wide xs
+unfolding with_letters
+wide_sets s [] h = (omega arith, tt)
+wide_sets s (x ∷ xs) h =
+    let (more, all) = wide_sets (either s x.base) xs h in
+    (omega (arith, more, le_or_l s x.base), (omega (arith, more, le_or_r s x.base), all))
+
+-- a list of at most 1,024 blocks, with a book that was read
+module _ (bs : List ℕ) (xs : List Block) (few : length xs ≤ 1024) (b : Book) (read : ReadsBook bs (Ok b)) where
   -- its own checks are 7 and 8
   list_checks : list_refusal xs ≡ blocks_refusal xs
   unfolding list_refusal
   list_checks = off _ OutOfRange _ (le-ltb 1024 (length xs) few)
 
-  -- so the list is a mask or a refusal as its blocks are
-  reads : read_blocks xs ≡ unless (list_refusal xs) (numbers_of xs)
+  -- these refuse it
+  pub list_refused : (r : Refusal) → read_blocks xs ≡ Err r → given_refusal (from_list bs xs) ≡ Some r
   unfolding read_blocks
-  reads = rw list_checks
+  list_refused r e = refused_mask (from_list bs xs) read.0 r (list_checks ∙ unless_err (blocks_refusal xs) _ r e)
 
-  -- a book that was read, with a mask
-  module _ (book : Book) (read : read_book bs ≡ Ok book) where
-    -- that is refused
-    pub list_refused : (r : Refusal) → read_blocks xs ≡ Err r → given_refusal (from_list bs xs) ≡ Some r
-    list_refused r e = refused_mask (from_list bs xs) book read r (sym reads ∙ e)
+  -- they don't: check 9 decides, by the totals of the list
+  module _ (t : Totals) (totals : read_blocks xs ≡ Ok t) where
+    passed : (blocks_refusal xs ≡ accepted) × (t ≡ totals_of xs)
+    unfolding read_blocks
+    passed = unless_ok (blocks_refusal xs) _ t totals
 
-    -- or that is read too: they are a pair by check 9
-    pub list_read : (m : Mask) → read_blocks xs ≡ Ok m → (got : Result Pair Refusal)
-        → got ≡ unless (refuse (some_from m.used book.letters) Foreign accepted) (record { book = book; mask = m }) → read_given (from_list bs xs) ≡ got
-    list_read m e got h = sym (h ∙ read_both (from_list bs xs) book read m (sym reads ∙ e))
+    pub list_read : given_refusal (from_list bs xs) ≡ refuse (some_from t.used b.table.letters) Foreign accepted
+    list_read = letters_decide (from_list bs xs) read.0 (list_checks ∙ passed.0) b read.1 t passed.1
 
-  -- both are accepted
-  module _ (p : Pair) (read : read_given (from_list bs xs) ≡ Ok p) where
-    -- they are ready for the passes
-    pub list_ready : Ready bs xs p
-    list_ready =
-        let (none, numbers) = given_accepted (from_list bs xs) p read in
-        let (book, mask, letters) = given_checks (from_list bs xs) none in
-        record { book = book; few = few; mask = sym list_checks ∙ mask; letters = letters; numbers = numbers }
+    -- nothing refuses it: it is ready for the passes
+    module _ (small : t.used < 2 ^ 64) (own : refuse (some_from t.used b.table.letters) Foreign accepted ≡ accepted) where
+      pub list_ready : Fits b.table.letters xs
+      list_ready =
+          let same = ap (λ (x : Totals). x.used) passed.1 in
+          let letters = rw (same, used_foreign) at (peel _ _ _ own).0 in
+          blocks_fit b.table.letters xs (wide_sets 0 xs (rw same at small)).1 few passed.0 letters
 
-    -- copied into the first entries of a room of the largest size, it has room there
-    pub copy_lent : (copy room : List Block) (sets : List ℕ) → copy ≡ xs → length room ≡ 2048 → 1024 ≤ length sets
-        → Lent p.mask (copy ++ drop (length xs) room) sets
-    copy_lent copy room sets copied h l =
-        let few = few_blocks bs xs p list_ready in
-        (omega (arith, few, few.1, h, ap length copied, length-append copy (drop (length xs) room), length-drop (length xs) room), omega (arith, few.1, l))
+      -- it is copied into the first entries of a room
+      module _ (copy rest : List Block) (copied : copy ≡ xs) where
+        first_blocks : take (length xs) (copy ++ rest) ≡ xs
+        first_blocks = first_copied xs copy rest copied (length xs) refl
 
-    -- the list is copied into the first entries of a room
-    module _ (copy rest : List Block) (copied : copy ≡ xs) where
-      -- as many as its numbers say
-      first_blocks : take p.mask.blocks (copy ++ rest) ≡ xs
-      first_blocks = rw copied (take_at xs rest p.mask.blocks (rw (given_accepted (from_list bs xs) p read).1))
+        -- these are ready for the passes too
+        pub copy_ready : Fits b.table.letters (take (length xs) (copy ++ rest))
+        copy_ready = rw first_blocks list_ready
 
-      -- these are ready for the passes too
-      pub copy_ready : Ready bs (take p.mask.blocks (copy ++ rest)) p
-      copy_ready = rw first_blocks list_ready
+        -- and what narrow promises of these it promises of the list
+        pub copy_promised : (old new : List ℕ) (a : Result Narrowed Refusal)
+            → NarrowsGiven (automaton b) (take (length xs) (copy ++ rest)) old new a → Narrows (from_list bs xs) old new a
+        copy_promised old new a h = h (from_list bs xs) (list_read ∙ own) read.1 first_blocks
 
-      -- and what narrow promises of these it promises of the list
-      pub copy_promised : (old new : List ℕ) (a : Result Narrowed Refusal)
-          → Narrows (record { book = bs; blocks = take p.mask.blocks (copy ++ rest); failing = accepted }) old new a → Narrows (from_list bs xs) old new a
-      copy_promised old new a h =
-          let (none, _) = given_accepted (from_list bs xs) p read in
-          let (_, passed, _) = given_checks (from_list bs xs) none in
-          rw passed (rw first_blocks at h)
+      -- a room of the largest size, into whose first entries it is copied, is large enough for these
+      pub copy_lent : (copy room : List Block) (copied : copy ≡ xs) (sets : List ℕ) → length room ≡ 2048 → 1024 ≤ length sets
+          → let ys = copy ++ drop (length xs) room in
+          (uppers (take (length xs) ys) + length xs ≤ length ys) × (uppers (take (length xs) ys) ≤ length sets)
+      copy_lent copy room copied sets h l =
+          let sum = list_ready.room.sum in
+          let rest = drop (length xs) room in
+          rw (first_blocks copy rest copied)
+          (omega (arith, few, sum, h, ap length copied, length-append copy rest, length-drop (length xs) room), omega (arith, sum, l))
 
 -- ---- the checks that come before its own 7 and 8
 
 module _ (bs : List ℕ) (xs : List Block) (old : List ℕ) where
   -- the book is refused
-  pub list_book : (r : Refusal) → read_book bs ≡ Err r → Narrows (from_list bs xs) old old (Err r)
+  pub list_book : (r : Refusal) → ReadsBook bs (Err r) → Narrows (from_list bs xs) old old (Err r)
   list_book r e = narrow_refused (from_list bs xs) old r (refused_book (from_list bs xs) r e)
 
   -- there are more than 1,024 blocks
-  pub list_long : (b : Book) → read_book bs ≡ Ok b → 1024 < length xs → Narrows (from_list bs xs) old old (Err OutOfRange)
-  unfolding list_refusal given_refusal
-  list_long b e h =
-      narrow_refused (from_list bs xs) old OutOfRange
-      (rw ((book_accepted bs b e).0, on _ OutOfRange (blocks_refusal xs) (lt-ltb 1024 (length xs) h)))
+  pub list_long : (b : Book) → ReadsBook bs (Ok b) → 1024 < length xs → Narrows (from_list bs xs) old old (Err OutOfRange)
+  unfolding list_refusal
+  list_long b read h =
+      let fails = on _ OutOfRange (blocks_refusal xs) (lt-ltb 1024 (length xs) h) in
+      narrow_refused (from_list bs xs) old OutOfRange (refused_mask (from_list bs xs) read.0 OutOfRange fails)

@@ -3,12 +3,13 @@
 use Prim.Native.Nat.{ℕ, ◌+◌, ◌-◌, ◌*◌, ◌^◌, ◌≤◌, ◌<◌}
 use Rattle.std.proofs.Common.{Option, Result, Ok, Err}
 use Rattle.std.proofs.Common as option
-use mathlib.Core.Path.{◌≡◌, refl, ◌∙◌, sym}
+use mathlib.Core.Path.{◌≡◌, refl, ◌∙◌, sym, ap, subst}
 use mathlib.Core.Logic.{⊎_elim}
 use mathlib.Core.Bool.{Bool, true, false, not}
 use mathlib.Core.List.{List}
 use native.Mathlib.Omega.{arith}
 use borrow.Author.Tests.{le-ltb}
+use lib.Dec.{T}
 use lib.ListN.{length, take, drop, length-drop}
 use lib.Seq.{take_all}
 use Rattle.model.specs.declared.Block.{Block}
@@ -21,7 +22,7 @@ use Rattle.model.specs.declared.Verdict.TheVariants.{None, All, One, Some}
 use Rattle.model.specs.Set.{has, both, some_member}
 use Rattle.model.specs.DashedString.{Bounded}
 use Rattle.model.specs.Automaton.{Dfa}
-use Rattle.model.specs.Passes.{narrowed_list}
+use Rattle.model.specs.Passes.{finals, narrowed_list}
 use Rattle.model.specs.NormalForm.{normal, Reduced}
 use Rattle.model.specs.Verdict.{narrowed_mask, single, every, say, some_legal, some_illegal, verdict}
 use Rattle.model.specs.Place.{place}
@@ -30,7 +31,9 @@ use Rattle.model.specs.Size.{WellFormed, Room, Fits}
 use Rattle.model.proofs.NormalForm.{normal_reduced}
 use Rattle.model.proofs.Room.{list_room, mask_fits}
 use Rattle.model.proofs.Demand3.{none_or_not, demand_3}
+use Rattle.records.specs.declared.book.Book.{Book}
 use Rattle.records.specs.Bytes.{Bytes, over}
+use Rattle.records.specs.Read.{automaton}
 use Rattle.records.specs.Book.{book_head, book_of}
 use Rattle.records.specs.Mask.{mask_of, mask_refusal, foreign}
 use Rattle.records.specs.Written.{mask_bytes}
@@ -40,14 +43,12 @@ use Rattle.records.proofs.Over.{take_over}
 use Rattle.records.proofs.RoundTrip.{length_mask, reads_back}
 use Rattle.records.proofs.WellFormed.{checked}
 use Rattle.operations.specs.declared.Narrowed.{Narrowed}
-use Rattle.operations.specs.declared.pair.Pair.{Pair}
 use Rattle.operations.specs.Buffer.{room_refusal, Puts}
-use Rattle.operations.specs.Pair.{Given, from_record, given_refusal, pair_refusal, Ready}
-use Rattle.operations.specs.Passes.{Found}
+use Rattle.operations.specs.Pair.{Given, from_record, given_refusal, pair_refusal}
 use Rattle.operations.specs.Narrow.{written, narrow_record, narrow_refusal, narrowed, narrow_buffer, narrow_numbers, Narrows, Answers}
 use Rattle.operations.proofs.Order.{same_refusal}
 use Rattle.operations.proofs.Pairs.{given_checks, pair_room}
-use Rattle.operations.proofs.Passing.{ready_fits, found_legal}
+use Rattle.operations.proofs.Passing.{found_legal}
 
 -- ---- a verdict answered with its record, or 10
 
@@ -162,51 +163,43 @@ room_64 m xs r = record { each = each_map (WellFormed m) (WellFormed 64) formed 
     formed : (x : Block) → WellFormed m x → WellFormed 64 x
     formed x f = record { bounds = f.bounds; bytes = f.bytes; letters = λ c k. k.small }
 
--- a book and blocks that are ready, of sets of 8 bytes; what the passes found, and the states among these that accept
+-- where some code is legal, the narrowed list has room
+pub list_fits : (d : Dfa) (m : ℕ) (xs : List Block) → Fits m xs → (s : ℕ) → s < 2 ^ 64 → s ≡ finals d xs
+    → (ys : List Block) → (T (some_legal d xs) → ys ≡ narrowed_list d xs) → (r : ℕ) → r ≡ both s d.accepting → ¬ (r ≡ 0) → Room 64 ys
+list_fits d m xs fits s small states ys list r shared n =
+    let legal = (found_legal d xs s small states r shared).1 n in
+    rw (list (rw legal tt)) (room_64 m _ (list_room d m xs fits.room))
+
+-- a book and blocks, however they are given, that no check refuses and that fit; what the passes found, and the states among these that
+-- accept
 module _
-    (bs : List ℕ) (xs : List Block) (p : Pair) (ready : Ready bs xs p) (known : p.mask.used < 2 ^ 64)
-    (s : ℕ) (ys : List Block) (small : s < 2 ^ 64) (found : Found (book_of bs) xs s ys)
-    (r : ℕ) (shared : r ≡ both s p.book.accepting) where
-  -- no check refuses them
-  abbrev given : Given
-  given = record { book = bs; blocks = xs; failing = accepted }
+    (g : Given) (none : given_refusal g ≡ accepted) (b : Book) (is : automaton b ≡ book_of g.book)
+    (xs : List Block) (same : xs ≡ g.blocks) (fits : Fits b.table.letters xs)
+    (s : ℕ) (ys : List Block) (small : s < 2 ^ 64) (states : s ≡ finals (automaton b) xs)
+    (list : T (some_legal (automaton b) xs) → ys ≡ narrowed_list (automaton b) xs)
+    (r : ℕ) (shared : r ≡ both s b.accepting) where
+  given_fits : Fits (book_head g.book).letters g.blocks
+  given_fits = subst (λ d. Fits d.table.letters g.blocks) is (rw same at fits)
 
-  none : given_refusal given ≡ accepted
-  unfolding given_refusal
-  none = rw ready.book (off _ refusal.Foreign accepted ready.letters)
-
-  fits : Fits (book_head bs).letters xs
-  fits = ready_fits bs xs p ready known
-
-  legal : ((r ≡ 0) → some_legal (book_of bs) xs ≡ false) × (¬ (r ≡ 0) → some_legal (book_of bs) xs ≡ true)
-  legal = found_legal bs xs p ready s ys small found r shared
-
-  -- the narrowed list has room
-  pub list_fits : ¬ (r ≡ 0) → Room 64 ys
-  list_fits n =
-      let m = (book_head bs).letters in
-      rw (found.list (rw (legal.1 n) tt)) (room_64 m _ (list_room (book_of bs) m xs fits.room))
+  legal : ((r ≡ 0) → some_legal (book_of g.book) g.blocks ≡ false) × (¬ (r ≡ 0) → some_legal (book_of g.book) g.blocks ≡ true)
+  legal = rw (is, same) at (found_legal (automaton b) xs s small states r shared)
 
   -- where no code is legal, none is answered and nothing written
-  pub narrow_none : (old : List ℕ) → r ≡ 0 → Narrows given old old (Ok (record { verdict = None; bytes = 0 }))
+  pub narrow_none : (old : List ℕ) → r ≡ 0 → Narrows g old old (Ok (record { verdict = None; bytes = 0 }))
   unfolding over verdict narrow_record
   narrow_none old z =
       let passes = off _ refusal.Room accepted (le-ltb (length old) 0 (omega arith)) in
-      answering given none fits old old _ (rw (legal.0 z) (record { answer = rw passes; buffer = rw passes }))
+      answering g none given_fits old old _ (rw (legal.0 z) (record { answer = rw passes; buffer = rw passes }))
 
   -- where some is, the verdict is answered with the normal form of the narrowed list
   pub narrow_some : (old new : List ℕ) (a : Result Narrowed Refusal) → ¬ (r ≡ 0)
-      → Answers (say true (some_member s (λ q. not (has p.book.accepting q))) (every single (normal ys))) (mask_bytes (normal ys)) old new a
-      → Narrows given old new a
+      → Answers (say true (some_member s (λ q. not (has b.accepting q))) (every single (normal ys))) (mask_bytes (normal ys)) old new a
+      → Narrows g old new a
   unfolding narrowed_mask some_illegal verdict narrow_record
   narrow_some old new a n h =
-      let list = found.list (rw (legal.1 n) tt) in
-      answering given none fits old new a (rw (legal.1 n, written_said) (rw (ready.numbers, found.states, list) at h))
-
--- what holds of a mask's blocks, copied, holds of the mask
-pub narrow_record_lem : (bs ms : List ℕ) (xs : List Block) → xs ≡ mask_of ms → mask_refusal ms ≡ accepted → (old new : List ℕ) (a : Result Narrowed Refusal)
-    → Narrows (record { book = bs; blocks = xs; failing = accepted }) old new a → Narrows (from_record bs ms) old new a
-narrow_record_lem bs ms xs e none old new a h = rw none (rw e at h)
+      let there = rw (is, same) at list (rw (legal.1 n) tt) in
+      let found = rw (is, same) at states in
+      answering g none given_fits old new a (rw (legal.1 n, written_said) (rw (found, there, ap (λ d. d.accepting) is) at h))
 
 -- ---- beside
 

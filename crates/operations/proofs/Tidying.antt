@@ -15,14 +15,14 @@ use Rattle.model.specs.declared.Refusal.{Refusal}
 use Rattle.model.specs.declared.Refusal.TheVariants as refusal
 use Rattle.model.specs.Refusal.{number, accepted, unless}
 use Rattle.model.specs.NormalForm.{normal}
-use Rattle.model.specs.Size.{Room}
+use Rattle.model.specs.Size.{Fits}
 use Rattle.model.proofs.NormalForm.{normal_spells, normal_reduced}
 use Rattle.model.proofs.Room.{normal_shorter, normal_fits}
-use Rattle.records.specs.declared.Mask.{Mask}
+use Rattle.records.specs.declared.mask.Mask.{Mask}
 use Rattle.records.specs.Bytes.{Bytes, over}
-use Rattle.records.specs.Mask.{count, mask_of, mask_refusal, read_mask}
+use Rattle.records.specs.Mask.{mask_of, mask_refusal}
+use Rattle.records.specs.Read.{blocks_of, ReadsMask}
 use Rattle.records.specs.Written.{block_bytes, blocks_bytes, head_bytes}
-use Rattle.records.proofs.Answers.{mask_accepted, mask_refused}
 use Rattle.records.proofs.Checks.{off}
 use Rattle.records.proofs.Offsets.{blocks_counted}
 use Rattle.records.proofs.Over.{take_over}
@@ -34,13 +34,9 @@ use Rattle.records.proofs.Stores.{mask_stored, stored_more, stored_all}
 use Rattle.std.proofs.lemmas.List.Edits.{sets}
 use Rattle.operations.specs.Tidy.{tidy_record, tidy_refusal, tidied, tidy_buffer, tidy_numbers, Rewrites, Tidies}
 
--- an accepted mask holds its blocks, which are few and have room
-pub mask_blocks : (ms : List ℕ) (x : Mask) → Bytes ms → read_mask ms ≡ Ok x
-    → ((count ms ≤ 1024) × (6 + 12 * count ms ≤ length ms)) × Room 64 (mask_of ms)
-mask_blocks ms x bytes h =
-    let (none, _) = mask_accepted ms x h in
-    let r = mask_record ms none in
-    ((r.few, omega (arith, r.size)), (record_fits_64 ms bytes none).room)
+-- an accepted mask fits a record
+pub mask_fits : (ms : List ℕ) (m : Mask) → Bytes ms → ReadsMask ms (Ok m) → Fits 64 (blocks_of m)
+mask_fits ms m bytes h = rw h.1 (record_fits_64 ms bytes h.0)
 
 -- n blocks of the normal form, and a buffer
 module _ (ms : List ℕ) (n : ℕ) (size : n ≡ length (normal (mask_of ms))) (old : List ℕ) where
@@ -59,10 +55,9 @@ module _ (ms : List ℕ) (n : ℕ) (size : n ≡ length (normal (mask_of ms))) (
       put_written (normal (mask_of ms)) old _ _ fits (rw size) (mask_stored (normal (mask_of ms)) old head part fits (rw size at e) w)
 
 -- the mask is refused
-pub tidy_refused : (ms old : List ℕ) (r : Refusal) → read_mask ms ≡ Err r → Tidies ms old old (Err r)
+pub tidy_refused : (ms old : List ℕ) (r : Refusal) → ReadsMask ms (Err r) → Tidies ms old old (Err r)
 unfolding tidy_refusal tidied tidy_buffer
-tidy_refused ms old r e =
-    let refused = mask_refused ms r e in
+tidy_refused ms old r refused =
     record { answer = rw refused; buffer = rw refused; meaning = λ z. absurd (let z' = rw refused at z in cc) }
 
 -- the record that tidy writes means what the mask means

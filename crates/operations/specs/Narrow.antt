@@ -1,8 +1,10 @@
 -- Narrow (01, "The four operations"): its checks, its answer, its bytes, and what they mean.
 use Rattle.std.specs.Prelude.{ℕ, ◌≡◌, Option, Result, Ok, Err, List, [], length, take}
+use Rattle.model.specs.declared.Block.{Block}
 use Rattle.model.specs.declared.Refusal.{Refusal}
 use Rattle.model.specs.declared.Verdict.{Verdict}
 use Rattle.model.specs.declared.Verdict.TheVariants.{None, All, One, Some}
+use Rattle.model.specs.Automaton.{Dfa}
 use Rattle.model.specs.NormalForm.{Reduced}
 use Rattle.model.specs.Refusal.{number as refusal_number_of, accepted, and_then, unless}
 use Rattle.model.specs.Verdict.{number, narrowed_mask, verdict}
@@ -60,6 +62,10 @@ pub record Narrows (g : Given) (old new : List ℕ) (a : Result Narrowed Refusal
   -- the bytes written are accepted again with the same book, and are in normal form
   pub again : (n : Narrowed) → a ≡ Ok n → ¬ (n.verdict ≡ None)
       → (pair_refusal g.book (take n.bytes new) ≡ accepted) × Reduced (mask_of (take n.bytes new))
+
+-- what narrow promises of this automaton and these blocks, however they are given, where no check refuses what is given
+abbrev pub NarrowsGiven : Dfa → List Block → List ℕ → List ℕ → Result Narrowed Refusal → Type 0
+NarrowsGiven b xs old new a = (g : Given) → given_refusal g ≡ accepted → b ≡ book_of g.book → xs ≡ g.blocks → Narrows g old new a
 
 -- one step of narrow: a verdict is answered, with what there is to write put into the buffer, or 10
 pub record Answers (v : Verdict) (bytes old new : List ℕ) (a : Result Narrowed Refusal) : Type 0 where

@@ -1,15 +1,16 @@
 // An answer written into the lent buffer, where it has room.
 ghost use Rattle.std.specs.Prelude.{◌≡◌, ◌+◌, ◌*◌, ◌≤◌, length};
 ghost use Rattle.model.specs.NormalForm.{normal};
-ghost use Rattle.model.specs.Size.{Room};
+ghost use Rattle.model.specs.Size.{Fits, Room};
 ghost use Rattle.records.specs.Bytes.{over};
-ghost use Rattle.records.specs.Mask.{count, mask_of};
 ghost use Rattle.records.specs.Written.{blocks_bytes, mask_bytes};
+ghost use Rattle.records.specs.Read.{blocks_of};
 ghost use Rattle.operations.specs.Buffer.{Puts};
 ghost use Rattle.operations.specs.Tidy.{tidy_record};
 
 use crate::joined::Joined;
 use model::{Block, Refusal};
+use records::Mask;
 
 // Writes blocks as a record over the first bytes of `out`, and returns how many bytes that is. Check 10: where the buffer is
 // shorter it writes nothing.
@@ -24,10 +25,10 @@ pub(crate) fn write_answer(blocks: &[Block], out: &mut [u8]) -> Result<u32, Refu
 }
 
 // Writes the blocks of a mask's normal form over the first bytes of `out`.
-fn write_joined(mask: &[u8], out: &mut [u8])
-    requires mask_value { (6 + 12 * count mask.now ≤ length mask.now) × Room 64 (mask_of mask.now) }
-    requires room { 12 * length (normal (mask_of mask.now)) ≤ length out.old }
-    ensures { out.new ≡ over (blocks_bytes (normal (mask_of mask.now))) out.old }
+fn write_joined(mask: Mask, out: &mut [u8])
+    requires formed { Room 64 (blocks_of mask) }
+    requires room { 12 * length (normal (blocks_of mask)) ≤ length out.old }
+    ensures { out.new ≡ over (blocks_bytes (normal (blocks_of mask.entry))) out.old }
 {
     for (i, block) in Joined::of(mask).enumerate() {
         records::write_block(out, 12 * i, block);
@@ -36,10 +37,9 @@ fn write_joined(mask: &[u8], out: &mut [u8])
 
 // Writes the normal form of a mask over the first bytes of `out`, where they have room for it: one walk counts its blocks, a
 // second writes them.
-pub(crate) fn write_tidied(mask: &[u8], out: &mut [u8]) -> Result<u32, Refusal>
-    requires mask_value { (count mask.now ≤ 1024) × (6 + 12 * count mask.now ≤ length mask.now) }
-    requires room { Room 64 (mask_of mask.now) }
-    ensures { Puts (tidy_record mask.now) out.old out.new result }
+pub(crate) fn write_tidied(mask: Mask, out: &mut [u8]) -> Result<u32, Refusal>
+    requires { Fits 64 (blocks_of mask) }
+    ensures { Puts (tidy_record mask.entry.bytes.now) out.old out.new result }
 {
     let count = Joined::of(mask).count();
     if out.len() < 6 + 12 * count {

@@ -1,15 +1,15 @@
 // The normal form of a mask's blocks, one after the other, which needs no room for them.
-ghost use Rattle.std.specs.Prelude.{◌≡◌, ◌+◌, ◌*◌, ◌≤◌, length};
+ghost use Rattle.std.specs.Prelude.{◌≡◌};
 ghost use Rattle.std.specs.Iterator.{YieldsFirst, item_count};
 ghost use Rattle.model.specs.declared.Block.{Block};
 ghost use Rattle.model.specs.NormalForm.{normal};
 ghost use Rattle.model.specs.Size.{Room};
-ghost use Rattle.records.specs.Mask.{count, mask_of};
+ghost use Rattle.records.specs.Read.{blocks_of};
 ghost use Rattle.normal_form.specs.Joining.{perhaps};
 
 use model::Block;
 use normal_form::Joiner;
-use records::Blocks;
+use records::{Blocks, Mask};
 
 // The blocks of the normal form that are still to come.
 #[derive(Drop)]
@@ -20,12 +20,11 @@ pub(crate) struct Joined<'a> {
 
 impl<'a> Joined<'a> {
     // All blocks of the normal form of a mask.
-    pub(crate) fn of(mask: &'a [u8]) -> Joined<'a>
-        requires { 6 + 12 * count mask.now ≤ length mask.now }
-        ensures { perhaps result.joiner.held result.blocks ≡ mask_of mask.now }
+    pub(crate) fn of(mask: Mask<'a>) -> Joined<'a>
+        ensures { perhaps result.joiner.held result.blocks ≡ blocks_of mask.entry }
     {
         Joined {
-            blocks: records::blocks(mask),
+            blocks: mask.blocks(),
             joiner: Joiner::new(),
         }
     }

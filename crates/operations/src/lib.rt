@@ -11,13 +11,12 @@ mod answer;
 mod joined;
 mod narrowing;
 mod pair;
-mod passes;
 mod placing;
 
 use answer::write_tidied;
 use model::{Block, Refusal, Verdict};
 use narrowing::{narrow_blocks, narrow_sized};
-use pair::{read_pair, with_mask};
+use pair::{Pair, check_letters};
 use placing::{missing, place_entry};
 
 // What narrow answers: the verdict, and how many bytes it wrote.
@@ -39,35 +38,35 @@ pub struct Tried {
 pub fn narrow(book: &[u8], mask: &[u8], out: &mut [u8]) -> Result<Narrowed, Refusal>
     ensures { Narrows (from_record book.now mask.now) out.old out.new result }
 {
-    let pair = read_pair(book, mask)?;
-    if pair.mask.blocks <= 64 && pair.mask.uppers <= 64 {
-        return narrow_sized::<64, 128>(pair, book, mask, out);
+    let pair = Pair::read(book, mask)?;
+    if pair.mask.len() <= 64 && pair.mask.totals.uppers <= 64 {
+        return narrow_sized::<64, 128>(pair, out);
     }
-    narrow_sized::<1024, 2048>(pair, book, mask, out)
+    narrow_sized::<1024, 2048>(pair, out)
 }
 
 // Narrow on a mask that is lent as a list of blocks. Book checks, 4, 7, 8, 9, 10.
 pub fn narrow_list(book: &[u8], blocks: &[Block], out: &mut [u8]) -> Result<Narrowed, Refusal>
     ensures { Narrows (from_list book.now blocks.now) out.old out.new result }
 {
-    let head = records::read_book(book)?;
+    let book = records::read_book(book)?;
     let count = blocks.len();
     if 1024 < count {
         return Err(Refusal::OutOfRange);
     }
-    let mask = records::check_blocks(blocks)?;
-    let pair = with_mask(head, mask)?;
+    let totals = records::check_blocks(blocks)?;
+    check_letters(book, totals)?;
     let mut room = [Block::EMPTY; 2048];
     let mut sets = [0u64; 1024];
     room[..count].copy_from_slice(blocks);
-    narrow_blocks(pair, book, &mut room, &mut sets, out)
+    narrow_blocks(book, &mut room, count, &mut sets, out)
 }
 
 // Tidy: writes the normal form of a mask over the first bytes of `out`, and returns how many bytes that is. Mask checks, then 10.
 pub fn tidy(mask: &[u8], out: &mut [u8]) -> Result<u32, Refusal>
     ensures { Tidies mask.now out.old out.new result }
 {
-    records::read_mask(mask)?;
+    let mask = records::read_mask(mask)?;
     write_tidied(mask, out)
 }
 
@@ -76,13 +75,13 @@ pub fn tidy(mask: &[u8], out: &mut [u8]) -> Result<u32, Refusal>
 pub fn place(book: &[u8], mask: &[u8], block: u32, place: u32) -> Result<Block, Refusal>
     ensures { Places book.now mask.now block place result }
 {
-    let pair = read_pair(book, mask)?;
+    let pair = Pair::read(book, mask)?;
     let block = block as usize;
     let place = place as usize;
-    if missing(mask, pair.mask.blocks, block, place) {
+    if missing(pair.mask, block, place) {
         return Err(Refusal::Missing);
     }
-    Ok(place_entry(pair, book, mask, block, place))
+    Ok(place_entry(pair, block, place))
 }
 
 // Try: whether the mask spells a code, one letter number a byte, and whether the book accepts it. Book checks, mask checks,
@@ -90,15 +89,15 @@ pub fn place(book: &[u8], mask: &[u8], block: u32, place: u32) -> Result<Block, 
 pub fn try_word(book: &[u8], mask: &[u8], word: &[u8]) -> Result<Tried, Refusal>
     ensures { Tries book.now mask.now word.now result }
 {
-    let pair = read_pair(book, mask)?;
+    let pair = Pair::read(book, mask)?;
     if 1024 < word.len() {
         return Err(Refusal::TooLong);
     }
-    if membership::some_strange(word, pair.book.letters) {
+    if membership::some_strange(word, pair.book.table.letters) {
         return Err(Refusal::Strange);
     }
     Ok(Tried {
-        mask: membership::spells(mask, word),
-        book: membership::accepts(pair.book, &book[15..], word),
+        mask: membership::spells(pair.mask, word),
+        book: membership::accepts(pair.book, word),
     })
 }

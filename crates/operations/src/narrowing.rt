@@ -1,20 +1,18 @@
 // Narrow on a book and a mask that pass the checks: the passes, the normal form, the verdict and the answer.
 ghost use Rattle.std.specs.Prelude.{true, not, ◌≡◌, ◌+◌, ◌≤◌, length, take};
-ghost use Rattle.model.specs.Refusal.{accepted};
 ghost use Rattle.model.specs.Set.{has, some_member};
 ghost use Rattle.model.specs.NormalForm.{normal};
 ghost use Rattle.model.specs.Verdict.{single, every, say};
-ghost use Rattle.model.specs.Size.{Room};
+ghost use Rattle.model.specs.Size.{Fits, Room, uppers};
 ghost use Rattle.records.specs.Written.{mask_bytes};
-ghost use Rattle.operations.specs.Pair.{from_record, read_pair, Ready};
-ghost use Rattle.operations.specs.Passes.{Lent};
-ghost use Rattle.operations.specs.Narrow.{Answers, Narrows};
+ghost use Rattle.records.specs.Read.{automaton, blocks_of};
+ghost use Rattle.operations.specs.Narrow.{Answers, NarrowsGiven};
 
 use crate::Narrowed;
 use crate::answer::write_answer;
 use crate::pair::Pair;
-use crate::passes::pass_blocks;
 use model::{Block, Refusal, Verdict};
+use records::Book;
 
 // Whether each block has one letter and l = u.
 fn all_single(blocks: &[Block]) -> bool
@@ -59,21 +57,21 @@ fn conclude(
     Ok(Narrowed { verdict, bytes })
 }
 
-// Narrow on the blocks in the first entries of `blocks`, in lent room.
+// Narrow on a book and the first `count` of the blocks, in lent room.
+#[tactic(auto, using(crate::proofs::Passing::passes_fit))]
 pub(crate) fn narrow_blocks(
-    pair: Pair,
-    book: &[u8],
+    book: Book,
     blocks: &mut [Block],
+    count: usize,
     sets: &mut [u64],
     out: &mut [u8],
 ) -> Result<Narrowed, Refusal>
-    requires ready { Ready book.now (take pair.mask.blocks blocks.old) pair }
-    requires lent { Lent pair.mask blocks.old sets.old }
-    ensures { let xs = take pair.mask.blocks blocks.old in
-        Narrows (record { book = book.now; blocks = xs; failing = accepted }) out.old out.new result }
+    requires fits { Fits book.table.letters (take count blocks.old) }
+    requires lent { (uppers (take count blocks.old) + count ≤ length blocks.old) × (uppers (take count blocks.old) ≤ length sets.old) }
+    ensures { NarrowsGiven (automaton book.entry) (take count blocks.old) out.old out.new result }
 {
-    let passed = pass_blocks(pair, book, blocks, sets);
-    let accepting = pair.book.accepting;
+    let passed = propagator::pass(book, blocks, count, sets);
+    let accepting = book.accepting;
     if bitset::intersection(passed.states, accepting) == 0 {
         return Ok(Narrowed {
             verdict: Verdict::None,
@@ -86,16 +84,14 @@ pub(crate) fn narrow_blocks(
 // Narrow in room for at most MOST blocks whose upper bounds sum to at most MOST; ROOM is twice as much.
 pub(crate) fn narrow_sized<const MOST: usize, const ROOM: usize>(
     pair: Pair,
-    book: &[u8],
-    mask: &[u8],
     out: &mut [u8],
 ) -> Result<Narrowed, Refusal>
-    requires mask_value { read_pair book.now mask.now ≡ Ok pair }
-    requires room { (pair.mask.blocks ≤ MOST) × (pair.mask.uppers ≤ MOST) × (MOST + MOST ≤ ROOM) × (ROOM ≤ 2048) }
-    ensures { Narrows (from_record book.now mask.now) out.old out.new result }
+    requires { (length (blocks_of pair.mask) ≤ MOST) × (uppers (blocks_of pair.mask) ≤ MOST) × (MOST + MOST ≤ ROOM) × (ROOM ≤ 2048) }
+    ensures { NarrowsGiven (automaton pair.entry.book) (blocks_of pair.entry.mask) out.old out.new result }
 {
     let mut blocks = [Block::EMPTY; ROOM];
     let mut sets = [0u64; MOST];
-    records::read_blocks(mask, &mut blocks[..pair.mask.blocks]);
-    narrow_blocks(pair, book, &mut blocks, &mut sets, out)
+    let count = pair.mask.len();
+    pair.mask.copy_to(&mut blocks[..count]);
+    narrow_blocks(pair.book, &mut blocks, count, &mut sets, out)
 }

@@ -1,35 +1,45 @@
 // A book and a mask taken together: the checks that narrow, place and try begin with.
 ghost use Rattle.std.specs.Prelude.{◌≡◌};
+ghost use Rattle.std.proofs.Props.{props};
 ghost use Rattle.model.specs.Refusal.{accepted, refuse, unless};
 ghost use Rattle.model.specs.Set.{some_from};
-ghost use Rattle.operations.specs.Pair.{read_pair};
+ghost use Rattle.model.specs.Size.{Fits};
+ghost use Rattle.records.specs.Mask.{mask_of, totals_of};
+ghost use Rattle.operations.specs.Props.{each_one};
 
 use model::Refusal;
-use records::{Book, Mask};
+use records::{Book, Mask, Totals};
 
-// The numbers of a book and of a mask whose letters are the book's.
+// A book, and a mask whose blocks fit a record with the book's letters, with its totals.
 #[derive(Clone, Copy)]
-pub(crate) struct Pair {
-    pub book: Book,
-    pub mask: Mask,
+pub(crate) struct Pair<'a> {
+    pub book: Book<'a>,
+    pub mask: Mask<'a>,
+    pub ghost fits: { Fits book.table.letters (mask_of mask.bytes.now) } by { Prim.hlevel (props, each_one) },
+    pub ghost totals: { mask.totals ≡ totals_of (mask_of mask.bytes.now) },
 }
 
-// A book and a mask, or the first check that fails: book checks, mask checks, 9.
-pub(crate) fn read_pair(book: &[u8], mask: &[u8]) -> Result<Pair, Refusal>
-    ensures { result ≡ read_pair book.now mask.now }
-{
-    let book = records::read_book(book)?;
-    let mask = records::read_mask(mask)?;
-    with_mask(book, mask)
+impl<'a> Pair<'a> {
+    ghost use Rattle.operations.specs.Pair.{ReadsPair};
+
+    // A book and a mask, or the first check that fails: book checks, mask checks, 9.
+    pub(crate) fn read(book: &'a [u8], mask: &'a [u8]) -> Result<Pair<'a>, Refusal>
+        ensures { ReadsPair book.now mask.now result }
+    {
+        let book = records::read_book(book)?;
+        let mask = records::read_mask(mask)?;
+        check_letters(book, mask.totals)?;
+        Ok(Pair { book, mask })
+    }
 }
 
-// A book and a mask that were read, by check 9.
+// Check 9, of a book and the totals of blocks.
 #[tactic(auto, unfolding(model::specs::Refusal::refuse))]
-pub(crate) fn with_mask(book: Book, mask: Mask) -> Result<Pair, Refusal>
-    ensures { result ≡ unless (refuse (some_from mask.used book.letters) Refusal.Foreign accepted) (record { book = book; mask = mask }) }
+pub(crate) fn check_letters(book: Book, totals: Totals) -> Result<(), Refusal>
+    ensures { result ≡ unless (refuse (some_from totals.used book.entry.table.letters) Refusal.Foreign accepted) tt }
 {
-    if records::some_foreign(mask, book.letters) {
+    if records::some_foreign(totals, book.table.letters) {
         return Err(Refusal::Foreign);
     }
-    Ok(Pair { book, mask })
+    Ok(())
 }

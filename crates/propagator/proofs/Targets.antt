@@ -20,7 +20,6 @@ use Rattle.model.specs.Set.{Member, either, some_from}
 use Rattle.model.specs.Automaton.{Table, next}
 use Rattle.model.proofs.Set.{one_in, in_both, in_either}
 use Rattle.model.proofs.Automaton.{next_le}
-use Rattle.records.specs.Book.{table_of}
 use Rattle.records.specs.Check.{some}
 use Rattle.records.proofs.Checks.{none_at}
 use Rattle.records.proofs.Next.{move_inside, next_names}
@@ -58,11 +57,11 @@ some_greatest n r P same (x ∷ xs) (Some m) e h = same m h ∙ ap (λ o. leb n 
 -- ---- where moves lead
 
 -- what the code makes of 1 shifted by n: the states of the book with the dead state, where a move names none, or without it
-pub targets_are : (n : ℕ) (moves : List ℕ) → n < 64 → let states = 1 * 2 ^ n % 2 ^ 64 - 1 in
-    (some (leb n) moves ≡ true → either states (2 ^ n) ≡ targets n moves) × (some (leb n) moves ≡ false → states ≡ targets n moves)
+pub targets_are : (t : Table) → t.states < 64 → let states = 1 * 2 ^ t.states % 2 ^ 64 - 1 in
+    (some (leb t.states) t.moves ≡ true → either states (2 ^ t.states) ≡ targets t) × (some (leb t.states) t.moves ≡ false → states ≡ targets t)
 unfolding targets
-targets_are n moves h =
-    let e : 1 * 2 ^ n % 2 ^ 64 - 1 ≡ 2 ^ n - 1 = omega (arith, pow-lt {i = n} {j = 64} h) in
+targets_are t h =
+    let e : 1 * 2 ^ t.states % 2 ^ 64 - 1 ≡ 2 ^ t.states - 1 = omega (arith, pow-lt {i = t.states} {j = 64} h) in
     (λ s. rw (s, e), λ s. rw (s, e))
 
 -- each number below n is in the set of n ones
@@ -72,28 +71,28 @@ below_in n j l small =
     ((in_both (2 ^ j) (2 ^ n - 1) {i = j}).0 (rw (and_mask (2 ^ j) n, same) (one_in small))).1
 
 -- moves lead to the states of the book and, where one names none, to the dead state
-targets_hold : (n m : ℕ) (moves : List ℕ) → n < 64 → n * m ≤ length moves → Targets (table_of n m moves) (targets n moves)
+targets_hold : (t : Table) → t.states < 64 → t.states * t.letters ≤ length t.moves → Targets t (targets t)
 unfolding targets
-targets_hold n m moves fits room q c state letter = go (some (leb n) moves) refl (ltb x n) refl
+targets_hold t fits room q c state letter = go (some (leb t.states) t.moves) refl (ltb x t.states) refl
   where
     x : ℕ
-    x = next (table_of n m moves) q c
+    x = next t q c
 
-    go : (v : Bool) → some (leb n) moves ≡ v → (u : Bool) → ltb x n ≡ u → Member x (cond v (either (2 ^ n - 1) (2 ^ n)) (2 ^ n - 1))
-    go true e true d = (in_either (2 ^ n - 1) (2 ^ n)).1 (inl (below_in n x (ltb-true x n d) (omega (arith, ltb-true x n d))))
+    go : (v : Bool) → some (leb t.states) t.moves ≡ v → (u : Bool) → ltb x t.states ≡ u → Member x (cond v (either (2 ^ t.states - 1) (2 ^ t.states)) (2 ^ t.states - 1))
+    go true e true d = (in_either (2 ^ t.states - 1) (2 ^ t.states)).1 (inl (below_in t.states x (ltb-true x t.states d) (omega (arith, ltb-true x t.states d))))
     go true e false d =
-        let dead : x ≡ n = omega (arith, ltb-false x n d, next_le (table_of n m moves) q c) in
-        (in_either (2 ^ n - 1) (2 ^ n)).1 (inr (rw dead (one_in fits)))
+        let dead : x ≡ t.states = omega (arith, ltb-false x t.states d, next_le t q c) in
+        (in_either (2 ^ t.states - 1) (2 ^ t.states)).1 (inr (rw dead (one_in fits)))
     go false e u d =
-        let i = q * m + c in
-        let names = leb-false n (get_or moves i 0) ((none_at (leb n) moves).0 e i (move_inside n m moves q c state letter room)) in
-        let same = next_names n m moves q c state letter (get_or moves i 0) refl names in
-        let small : x < n = rw (← same) names in
-        below_in n x small (omega arith)
+        let i = q * t.letters + c in
+        let names = leb-false t.states (get_or t.moves i 0) ((none_at (leb t.states) t.moves).0 e i (move_inside t.states t.letters t.moves q c state letter room)) in
+        let same = next_names t.states t.letters t.moves q c state letter (get_or t.moves i 0) refl names in
+        let small : x < t.states = rw (← same) names in
+        below_in t.states x small (omega arith)
 
 -- and so to the states of a set that is given by an equation
-pub targets_given : (n m : ℕ) (moves : List ℕ) (B : ℕ) → B ≡ targets n moves → n < 64 → n * m ≤ length moves → Targets (table_of n m moves) B
-targets_given n m moves B e fits room = rw e (targets_hold n m moves fits room)
+pub targets_given : (t : Table) (B : ℕ) → B ≡ targets t → t.states < 64 → t.states * t.letters ≤ length t.moves → Targets t B
+targets_given t B e fits room = rw e (targets_hold t fits room)
 
 -- so one letter from states of Q leads within the limit
 pub in_limit : (t : Table) → t.states < 64 → (B Q : ℕ) → Targets t B → (q c : ℕ) → Member q Q → c < t.letters → Member (next t q c) (limit t.states B Q)

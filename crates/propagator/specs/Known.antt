@@ -1,5 +1,5 @@
 -- What the way forward remembers: where one letter leads from a set of states, and the states that moves lead to.
-use Rattle.std.specs.Prelude.{ℕ, ◌-◌, ◌^◌, ◌<◌, cond, List, leb}
+use Rattle.std.specs.Prelude.{ℕ, ◌-◌, ◌^◌, ◌<◌, cond, leb}
 use Rattle.model.specs.Set.{Member, either, union_of, some_from}
 use Rattle.model.specs.Automaton.{Table, next}
 use Rattle.records.specs.Check.{some}
@@ -8,9 +8,9 @@ use Rattle.records.specs.Check.{some}
 unfoldable pub image : Table → ℕ → ℕ → ℕ
 image t Q c = union_of Q (λ q. 2 ^ next t q c)
 
--- the n states of a book and, where one of these moves names none, the dead state
-unfoldable pub targets : ℕ → List ℕ → ℕ
-targets n moves = let states = 2 ^ n - 1 in cond (some (leb n) moves) (either states (2 ^ n)) states
+-- the states of a book and, where one of its moves names none, the dead state
+unfoldable pub targets : Table → ℕ
+targets t = let states = 2 ^ t.states - 1 in cond (some (leb t.states) t.moves) (either states (2 ^ t.states)) states
 
 -- each move by a letter of the book from a state of the book leads to a state of B
 abbrev pub Targets : Table → ℕ → Type 0

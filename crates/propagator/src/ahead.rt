@@ -4,7 +4,7 @@ ghost use Rattle.model.specs.Size.{Room, lower_sum};
 ghost use Rattle.model.specs.Passes as passes;
 ghost use Rattle.model.specs.Passes.{segments_of, segments, final};
 ghost use Rattle.propagator.specs.Moves.{Below, exactly};
-ghost use Rattle.propagator.specs.Table.{table};
+ghost use Rattle.records.specs.Read.{table};
 ghost use Rattle.propagator.specs.Rows.{sets_of, stored_sum, places_of, stored_by, stored};
 
 use crate::known::Steps;
@@ -21,9 +21,9 @@ pub(crate) struct Behind {
 
 // Stores Q1 to Ql, where `from` is Q0; returns Ql. Where a set repeats, all that follow are that set.
 fn fill_places(steps: &mut Steps, from: u64, places: &mut [u64]) -> u64
-    ensures value { result ≡ exactly (table steps.old.letters.moves) steps.old.letters.set from (length places.old) }
+    ensures value { result ≡ exactly (table steps.old.letters.moves.table) steps.old.letters.set from (length places.old) }
     ensures same { steps.new.letters ≡ steps.old.letters }
-    ensures places { places.new ≡ places_of (table steps.old.letters.moves) steps.old.letters.set from (length places.old) }
+    ensures places { places.new ≡ places_of (table steps.old.letters.moves.table) steps.old.letters.set from (length places.old) }
 {
     let mut set = from;
     for j in 0..places.len() {
@@ -41,7 +41,7 @@ fn fill_places(steps: &mut Steps, from: u64, places: &mut [u64]) -> u64
 // The states reached from `from` by at most `width` letters. Each round steps from the states alone that the last
 // one added.
 fn reached(steps: &mut Steps, from: u64, width: usize) -> u64
-    ensures value { result ≡ passes.at_most (table steps.old.letters.moves) steps.old.letters.set from width }
+    ensures value { result ≡ passes.at_most (table steps.old.letters.moves.table) steps.old.letters.set from width }
     ensures same { steps.new.letters ≡ steps.old.letters }
 {
     let mut all = from;
@@ -58,11 +58,11 @@ fn reached(steps: &mut Steps, from: u64, width: usize) -> u64
 
 // One block: stores its Q1 to Ql and, where l < u, its R, where `from` is its Q0; returns its R.
 fn pass_block(steps: &mut Steps, block: Block, from: u64, sets: &mut [u64]) -> u64
-    requires formed { Below steps.old.letters.moves.letters block.base × (block.lower ≤ block.upper) }
+    requires formed { Below steps.old.letters.moves.table.letters block.base × (block.lower ≤ block.upper) }
     requires size { length sets.old ≡ sets_of block }
-    ensures value { result ≡ final (table steps.old.letters.moves) from (segments_of block) }
+    ensures value { result ≡ final (table steps.old.letters.moves.table) from (segments_of block) }
     ensures moves { steps.new.letters.moves ≡ steps.old.letters.moves }
-    ensures sets { sets.new ≡ stored_by (table steps.old.letters.moves) from block }
+    ensures sets { sets.new ≡ stored_by (table steps.old.letters.moves.table) from block }
 {
     steps.turn_to(block.base);
     let places = block.lower as usize;
@@ -74,11 +74,11 @@ fn pass_block(steps: &mut Steps, block: Block, from: u64, sets: &mut [u64]) -> u
 
 // Goes through the blocks and stores their sets one after another. `start` is the first block's Q0.
 pub(crate) fn go_ahead(steps: &mut Steps, blocks: &[Block], start: u64, sets: &mut [u64]) -> Behind
-    requires room { Room steps.old.letters.moves.letters blocks.now }
+    requires room { Room steps.old.letters.moves.table.letters blocks.now }
     requires sets_fit { stored_sum blocks.now ≤ length sets.old }
-    ensures states { result.states ≡ final (table steps.old.letters.moves) start (segments blocks.now) }
+    ensures states { result.states ≡ final (table steps.old.letters.moves.table) start (segments blocks.now) }
     ensures entries { result.entries ≡ lower_sum blocks.now + length blocks.now }
-    ensures sets { (result.stored ≡ stored_sum blocks.now) × (take result.stored sets.new ≡ stored (table steps.old.letters.moves) start blocks.now) }
+    ensures sets { (result.stored ≡ stored_sum blocks.now) × (take result.stored sets.new ≡ stored (table steps.old.letters.moves.table) start blocks.now) }
 {
     let mut states = start;
     let mut entries = 0;

@@ -3,7 +3,7 @@ ghost use Rattle.std.specs.Prelude.{◌≡◌, ◌+◌, ◌≤◌, length, take}
 ghost use Rattle.model.specs.Size.{Room, lower_sum};
 ghost use Rattle.model.specs.Passes.{segments_of, segments, final};
 ghost use Rattle.propagator.specs.Moves.{Below};
-ghost use Rattle.propagator.specs.Table.{table};
+ghost use Rattle.records.specs.Read.{table};
 ghost use Rattle.propagator.specs.Rows.{kept_to, entries_to, Inside, stored_by, stored};
 
 use crate::letters::Letters;
@@ -13,12 +13,12 @@ use model::Block;
 
 // One block: makes its entries. `row` are its sets, Q0 before them, and `end` is its E; returns its M0.
 fn narrow_block(moves: Moves, block: Block, row: Row, end: u64, entries: &mut [Block]) -> u64
-    requires formed { Below moves.letters block.base × (block.lower ≤ block.upper) }
+    requires formed { Below moves.table.letters block.base × (block.lower ≤ block.upper) }
     requires size { length entries.old ≡ block.lower + 1 }
-    requires sets { row.sets.now ≡ stored_by (table moves) row.first block }
-    requires inside { Inside end (final (table moves) row.first (segments_of block)) }
-    ensures value { result ≡ kept_to (table moves.entry) end row.entry.first (segments_of block) }
-    ensures entries { entries.new ≡ entries_to (table moves.entry) end row.entry.first (segments_of block) }
+    requires sets { row.sets.now ≡ stored_by (table moves.table) row.first block }
+    requires inside { Inside end (final (table moves.table) row.first (segments_of block)) }
+    ensures value { result ≡ kept_to (table moves.entry.table) end row.entry.first (segments_of block) }
+    ensures entries { entries.new ≡ entries_to (table moves.entry.table) end row.entry.first (segments_of block) }
 {
     let letters = Letters {
         moves,
@@ -41,11 +41,11 @@ fn narrow_block(moves: Moves, block: Block, row: Row, end: u64, entries: &mut [B
 // entries begin at i or behind. `row` are the sets of these blocks, the start before them, and `end` the states kept behind the
 // last.
 pub(crate) fn go_back(moves: Moves, mut row: Row, end: u64, blocks: &mut [Block], count: usize)
-    requires room { Room moves.letters (take count blocks.old) }
+    requires room { Room moves.table.letters (take count blocks.old) }
     requires size { length blocks.old ≡ lower_sum (take count blocks.old) + count }
-    requires sets { row.sets.now ≡ stored (table moves) row.first (take count blocks.old) }
-    requires inside { Inside end (final (table moves) row.first (segments (take count blocks.old))) }
-    ensures { blocks.new ≡ entries_to (table moves.entry) end row.entry.first (segments (take count blocks.old)) }
+    requires sets { row.sets.now ≡ stored (table moves.table) row.first (take count blocks.old) }
+    requires inside { Inside end (final (table moves.table) row.first (segments (take count blocks.old))) }
+    ensures { blocks.new ≡ entries_to (table moves.entry.table) end row.entry.first (segments (take count blocks.old)) }
 {
     let mut kept = end;
     let mut at = blocks.len();

@@ -1,7 +1,7 @@
 // The states after one letter of a set, letter by letter, from the same states as in the last step.
 ghost use Rattle.std.specs.Prelude.{◌≡◌, ◌<◌};
 ghost use Rattle.model.specs.Passes.{after};
-ghost use Rattle.propagator.specs.Table.{table};
+ghost use Rattle.records.specs.Read.{table};
 ghost use Rattle.propagator.specs.Known.{image};
 
 use crate::known::Steps;
@@ -9,8 +9,8 @@ use crate::known::Steps;
 impl<'a> Steps<'a> {
     // The states after the letter `c`.
     fn recall_image(&mut self, c: usize) -> u64
-        requires { (c < self.old.letters.moves.letters) × (c < 64) }
-        ensures value { result ≡ image (table self.old.letters.moves) self.old.from c }
+        requires { (c < self.old.letters.moves.table.letters) × (c < 64) }
+        ensures value { result ≡ image (table self.old.letters.moves.table) self.old.from c }
         ensures same { (self.new.letters ≡ self.old.letters) × (self.new.from ≡ self.old.from) }
     {
         if bitset::has(self.letters_known, c) {
@@ -24,7 +24,7 @@ impl<'a> Steps<'a> {
 
     // The states after one of the letters.
     pub(crate) fn step_by_letters(&mut self) -> u64
-        ensures value { result ≡ after (table self.old.letters.moves) self.old.letters.set self.old.from }
+        ensures value { result ≡ after (table self.old.letters.moves.table) self.old.letters.set self.old.from }
         ensures same { self.new.letters ≡ self.old.letters }
     {
         let mut found = 0;

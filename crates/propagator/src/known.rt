@@ -4,7 +4,7 @@ ghost use Rattle.std.specs.Prelude.{◌≡◌, ℕ, ◌<◌, get_or};
 ghost use Rattle.model.specs.Set.{Member};
 ghost use Rattle.model.specs.Passes.{reach, after};
 ghost use Rattle.propagator.specs.Moves.{Below};
-ghost use Rattle.propagator.specs.Table.{table};
+ghost use Rattle.records.specs.Read.{table};
 ghost use Rattle.propagator.specs.Known as spec;
 ghost use Rattle.propagator.specs.Known.{image, Targets};
 
@@ -22,15 +22,15 @@ pub(crate) struct Steps<'a> {
     pub letters_known: u64,
     pub from: u64,
     pub targets: u64,
-    pub ghost states: { (q : ℕ) → Member q states_known → get_or by_state q 0 ≡ reach (table letters.moves) letters.set q },
-    pub ghost images: { (c : ℕ) → Member c letters_known → get_or by_letter c 0 ≡ image (table letters.moves) from c },
-    pub ghost bounds: { Targets (table letters.moves) targets },
+    pub ghost states: { (q : ℕ) → Member q states_known → get_or by_state q 0 ≡ reach (table letters.moves.table) letters.set q },
+    pub ghost images: { (c : ℕ) → Member c letters_known → get_or by_letter c 0 ≡ image (table letters.moves.table) from c },
+    pub ghost bounds: { Targets (table letters.moves.table) targets },
 }
 
 impl<'a> Steps<'a> {
     // By no letter, and nothing is known but where moves lead.
     pub(crate) fn new(moves: Moves<'a>) -> Steps<'a>
-        requires { 0 < moves.states }
+        requires { 0 < moves.table.states }
         ensures { result.letters.moves ≡ moves.entry }
     {
         Steps {
@@ -46,7 +46,7 @@ impl<'a> Steps<'a> {
 
     // Turns to the letters of `set`: what was worked out for another set is forgotten.
     pub(crate) fn turn_to(&mut self, set: u64)
-        requires { Below self.old.letters.moves.letters set }
+        requires { Below self.old.letters.moves.table.letters set }
         ensures turned { self.new.letters.set ≡ set }
         ensures moves { self.new.letters.moves ≡ self.old.letters.moves }
     {
@@ -62,7 +62,7 @@ impl<'a> Steps<'a> {
     // The states after one of the letters from state `q`.
     fn recall(&mut self, q: usize) -> u64
         requires { q < 64 }
-        ensures value { result ≡ reach (table self.old.letters.moves) self.old.letters.set q }
+        ensures value { result ≡ reach (table self.old.letters.moves.table) self.old.letters.set q }
         ensures same { self.new.letters ≡ self.old.letters }
     {
         if bitset::has(self.states_known, q) {
@@ -76,9 +76,9 @@ impl<'a> Steps<'a> {
 
     // The states that one letter can lead to from states of `from`.
     fn limit(&self, from: u64) -> u64
-        ensures { result ≡ spec.limit self.now.letters.moves.states self.now.targets from }
+        ensures { result ≡ spec.limit self.now.letters.moves.table.states self.now.targets from }
     {
-        let states = self.letters.moves.states;
+        let states = self.letters.moves.table.states;
         if bitset::some_from(from, states) {
             return bitset::add(self.targets, states);
         }
@@ -87,7 +87,7 @@ impl<'a> Steps<'a> {
 
     // The states after one of the letters from states of `from`, state by state, until all that a letter can lead to are found.
     fn step_by_states(&mut self, from: u64) -> u64
-        ensures value { result ≡ after (table self.old.letters.moves) self.old.letters.set from }
+        ensures value { result ≡ after (table self.old.letters.moves.table) self.old.letters.set from }
         ensures same { self.new.letters ≡ self.old.letters }
     {
         let most = self.limit(from);
@@ -103,7 +103,7 @@ impl<'a> Steps<'a> {
 
     // The states after one of the letters from states of `from`: letter by letter where the last step was from these states too.
     pub(crate) fn step(&mut self, from: u64) -> u64
-        ensures value { result ≡ after (table self.old.letters.moves) self.old.letters.set from }
+        ensures value { result ≡ after (table self.old.letters.moves.table) self.old.letters.set from }
         ensures same { self.new.letters ≡ self.old.letters }
     {
         if self.from == from {

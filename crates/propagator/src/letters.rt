@@ -10,15 +10,15 @@ use crate::moving::Moves;
 pub(crate) struct Letters<'a> {
     pub moves: Moves<'a>,
     pub set: u64,
-    pub ghost below: { Below moves.letters set },
+    pub ghost below: { Below moves.table.letters set },
 }
 
 impl<'a> Letters<'a> {
-    ghost use Rattle.propagator.specs.Table.{table};
+    ghost use Rattle.records.specs.Read.{table};
 
     // The states after one letter from state `q`.
     pub(crate) fn successors(self, q: usize) -> u64
-        ensures { result ≡ reach (table self.entry.moves) self.entry.set q }
+        ensures { result ≡ reach (table self.entry.moves.table) self.entry.set q }
     {
         let moves = self.moves;
         bitset::members(self.set).fold(0, |found, c| bitset::add(found, moves.next(q, c)))
@@ -28,7 +28,7 @@ impl<'a> Letters<'a> {
     // jump, and of a `filter` it does not.
     pub(crate) fn letters_to(self, q: usize, end: u64) -> u64
         requires { q < 64 }
-        ensures { result ≡ between (table self.entry.moves) self.entry.set (2 ^ q) end }
+        ensures { result ≡ between (table self.entry.moves.table) self.entry.set (2 ^ q) end }
     {
         let mut found = 0;
         for c in bitset::members(self.set) {
@@ -42,7 +42,7 @@ impl<'a> Letters<'a> {
 
     // Whether some letter leads from state `q` to a state of `end`.
     pub(crate) fn some_letter_to(self, q: usize, end: u64) -> bool
-        ensures { result ≡ leads (table self.entry.moves) self.entry.set end q }
+        ensures { result ≡ leads (table self.entry.moves.table) self.entry.set end q }
     {
         let moves = self.moves;
         bitset::members(self.set).any(|c| bitset::has(end, moves.next(q, c)))

@@ -2,9 +2,9 @@
 // the blocks is lent.
 #![tactic(auto)]
 
-ghost use Rattle.std.specs.Prelude.{◌+◌, ◌*◌, ◌≤◌, ◌<◌, length, take};
+ghost use Rattle.std.specs.Prelude.{◌+◌, ◌≤◌, length, take};
 ghost use Rattle.model.specs.Size.{Room, lower_sum};
-ghost use Rattle.records.specs.Book.{automaton_of};
+ghost use Rattle.records.specs.Read.{automaton};
 ghost use Rattle.propagator.specs.Rows.{stored_sum, Leaves};
 
 mod ahead;
@@ -34,24 +34,13 @@ pub struct Passed {
 
 // The passes over the first `count` blocks. Where some code is legal, the first entries of the slice are the narrowed list then;
 // else nothing is said of them. `sets` is room.
-pub fn pass(
-    book: Book,
-    moves: &[u8],
-    blocks: &mut [Block],
-    count: usize,
-    sets: &mut [u64],
-) -> Passed
-    requires sound { (book.states < 64) × (book.start < book.states) × (book.states * book.letters ≤ length moves.now) }
-    requires room { Room book.letters (take count blocks.old) }
+pub fn pass(book: Book, blocks: &mut [Block], count: usize, sets: &mut [u64]) -> Passed
+    requires room { Room book.table.letters (take count blocks.old) }
     requires blocks_fit { lower_sum (take count blocks.old) + count ≤ length blocks.old }
     requires sets_fit { stored_sum (take count blocks.old) ≤ length sets.old }
-    ensures { Leaves (automaton_of book moves.now) (take count blocks.old) blocks.new result }
+    ensures { Leaves (automaton book.entry) (take count blocks.old) blocks.new result }
 {
-    let moves = Moves {
-        states: book.states,
-        letters: book.letters,
-        moves,
-    };
+    let moves = Moves { table: book.table };
     let mut steps = Steps::new(moves);
     let start = bitset::add(0, book.start);
     let Behind {

@@ -1,50 +1,49 @@
 // The moves of a book: where one state leads by one letter, and one letter from a set of states.
-ghost use Rattle.std.specs.Prelude.{◌≡◌, ◌*◌, ◌≤◌, ◌<◌, length, leb};
+ghost use Rattle.std.specs.Prelude.{◌≡◌, ◌<◌, leb};
 ghost use Rattle.model.specs.Automaton as automaton;
 ghost use Rattle.records.specs.Check.{some};
 ghost use Rattle.propagator.specs.Known as spec;
 
-// At most 63 states, and a move for each state and letter.
+use records::Table;
+
+// At most 63 states.
 #[derive(Clone, Copy)]
 pub(crate) struct Moves<'a> {
-    pub states: usize,
-    pub letters: usize,
-    pub moves: &'a [u8],
-    pub ghost small: { states < 64 },
-    pub ghost enough: { states * letters ≤ length moves.now },
+    pub table: Table<'a>,
+    pub ghost small: { table.states < 64 },
 }
 
 impl<'a> Moves<'a> {
-    ghost use Rattle.propagator.specs.Table.{table};
+    ghost use Rattle.records.specs.Read.{table};
 
     // The state that state `q`, the dead state or one without a number among them, moves to by letter `c`.
     pub(crate) fn next(self, q: usize, c: usize) -> usize
-        requires { c < self.letters }
-        ensures value { result ≡ automaton.next (table self.entry) q c }
+        requires { c < self.table.letters }
+        ensures value { result ≡ automaton.next (table self.entry.table) q c }
         ensures small { result < 64 }
     {
-        if q < self.states {
-            return records::next_state(self.states, self.letters, self.moves, q, c);
+        if q < self.table.states {
+            return self.table.next(q, c);
         }
-        self.states
+        self.table.states
     }
 
     // The states after the letter `c` from states of `from`.
     pub(crate) fn image(self, from: u64, c: usize) -> u64
-        requires { c < self.letters }
-        ensures { result ≡ spec.image (table self.entry) from c }
+        requires { c < self.table.letters }
+        ensures { result ≡ spec.image (table self.entry.table) from c }
     {
         bitset::members(from).fold(0, |found, q| bitset::add(found, self.next(q, c)))
     }
 
     // The states of the book and, where some move names none, the dead state.
     pub(crate) fn targets(self) -> u64
-        requires { 0 < self.states }
-        ensures { result ≡ spec.targets self.entry.states self.entry.moves.now }
+        requires { 0 < self.table.states }
+        ensures { result ≡ spec.targets (table self.entry.table) }
     {
-        let states = (1 << self.states) - 1;
-        if some_missing(self.states, self.moves) {
-            return bitset::add(states, self.states);
+        let states = (1 << self.table.states) - 1;
+        if some_missing(self.table.states, self.table.moves) {
+            return bitset::add(states, self.table.states);
         }
         states
     }

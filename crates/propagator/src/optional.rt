@@ -4,7 +4,7 @@ ghost use Rattle.model.specs.Set.{both, either};
 ghost use Rattle.model.specs.DashedString.{block};
 ghost use Rattle.model.specs.Passes as passes;
 ghost use Rattle.model.specs.Passes.{before, to_end, at_most, optional, pruned, backward};
-ghost use Rattle.propagator.specs.Table.{table};
+ghost use Rattle.records.specs.Read.{table};
 ghost use Rattle.propagator.specs.Rows.{Becomes};
 
 use crate::letters::Letters;
@@ -22,7 +22,7 @@ pub(crate) struct Optional {
 impl<'a> Letters<'a> {
     // The next level, where `level` is one.
     fn raise(self, within: u64, level: u64) -> u64
-        ensures { result ≡ either level (before (table self.entry.moves) self.entry.set within level) }
+        ensures { result ≡ either level (before (table self.entry.moves.table) self.entry.set within level) }
     {
         let more = bitset::members(bitset::difference(within, level))
             .filter(|q| self.some_letter_to(*q, level))
@@ -32,7 +32,7 @@ impl<'a> Letters<'a> {
 
     // Level `height`, through states of `within` to states of `end`. Where a level repeats, all above are that level.
     fn level_of(self, within: u64, end: u64, height: u16) -> u64
-        ensures { result ≡ to_end (table self.entry.moves) self.entry.set within end height }
+        ensures { result ≡ to_end (table self.entry.moves.table) self.entry.set within end height }
     {
         let mut level = end;
         for _ in 0..height {
@@ -47,7 +47,7 @@ impl<'a> Letters<'a> {
 
     // The least b(q) over the states q of `from`, or `width` where none is below.
     fn fewest(self, within: u64, end: u64, from: u64, width: u16) -> u16
-        ensures { result ≡ passes.fewest (table self.entry.moves) self.entry.set within end from width }
+        ensures { result ≡ passes.fewest (table self.entry.moves.table) self.entry.set within end from width }
     {
         let mut level = end;
         for height in 0..width {
@@ -62,10 +62,10 @@ impl<'a> Letters<'a> {
     // The optional part of at most `width` letters: `from` are the states possible before it, `within` those possible behind it
     // and `end` those kept behind it.
     pub(crate) fn narrow_optional(self, width: u16, from: u64, within: u64, end: u64) -> Optional
-        requires within_value { (within ≡ at_most (table self.moves) self.set from width) × (both within end ≡ end) }
-        ensures block_value { result.block ≡ pruned (table self.entry.moves) from (optional self.entry.set width) end }
-        ensures states_value { result.states ≡ backward (table self.entry.moves) from (optional self.entry.set width) end }
-        ensures becomes { IfSome result.kept (λ kept. Becomes (table self.entry.moves) self.entry.set kept.from kept.to kept) }
+        requires within_value { (within ≡ at_most (table self.moves.table) self.set from width) × (both within end ≡ end) }
+        ensures block_value { result.block ≡ pruned (table self.entry.moves.table) from (optional self.entry.set width) end }
+        ensures states_value { result.states ≡ backward (table self.entry.moves.table) from (optional self.entry.set width) end }
+        ensures becomes { IfSome result.kept (λ kept. Becomes (table self.entry.moves.table) self.entry.set kept.from kept.to kept) }
     {
         if width == 0 {
             return Optional {

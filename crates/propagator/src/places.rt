@@ -1,7 +1,7 @@
 // Step 5 of the passes: the mandatory places of a block.
 ghost use Rattle.std.specs.Prelude.{◌≡◌, length, replicate, IfSome};
 ghost use Rattle.model.specs.Passes.{mandatory};
-ghost use Rattle.propagator.specs.Table.{table};
+ghost use Rattle.records.specs.Read.{table};
 ghost use Rattle.propagator.specs.Rows.{kept_to, entries_to, Becomes, places_of};
 
 use crate::letters::Letters;
@@ -22,7 +22,7 @@ impl<'a> Letters<'a> {
     // The letters by which some move goes from a state of `from` to a state of `end`, and those former states. Of each
     // state the letters not yet kept are looked at; where none leads to `end`, one kept letter that does keeps the state.
     pub(crate) fn narrow_place(self, from: u64, end: u64) -> Kept
-        ensures { (result.from ≡ from) × (result.to ≡ end) × Becomes (table self.entry.moves) self.entry.set from end result }
+        ensures { (result.from ≡ from) × (result.to ≡ end) × Becomes (table self.entry.moves.table) self.entry.set from end result }
     {
         let mut letters = 0;
         let mut states = 0;
@@ -59,10 +59,10 @@ impl<'a> Letters<'a> {
         mut last: Option<Kept>,
         entries: &mut [Block],
     ) -> u64
-        requires places { row.sets.now ≡ places_of (table self.moves) self.set row.first (length entries.old) }
-        requires becomes { IfSome last (λ kept. Becomes (table self.moves) self.set kept.from kept.to kept) }
-        ensures value { result ≡ kept_to (table self.entry.moves) end row.entry.first (replicate (length entries.old) (mandatory self.entry.set)) }
-        ensures entries { entries.new ≡ entries_to (table self.entry.moves) end row.entry.first (replicate (length entries.old) (mandatory self.entry.set)) }
+        requires places { row.sets.now ≡ places_of (table self.moves.table) self.set row.first (length entries.old) }
+        requires becomes { IfSome last (λ kept. Becomes (table self.moves.table) self.set kept.from kept.to kept) }
+        ensures value { result ≡ kept_to (table self.entry.moves.table) end row.entry.first (replicate (length entries.old) (mandatory self.entry.set)) }
+        ensures entries { entries.new ≡ entries_to (table self.entry.moves.table) end row.entry.first (replicate (length entries.old) (mandatory self.entry.set)) }
     {
         let mut states = end;
         for j in (0..entries.len()).rev() {

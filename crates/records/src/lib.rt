@@ -79,7 +79,7 @@ pub fn read_mask<'a>(bytes: &'a [u8]) -> Result<Mask<'a>, Refusal>
     if bytes.len() != 6 + 12 * count {
         return Err(Refusal::Size);
     }
-    let totals = gather::totals_of(count, |i| block::block_from(bytes, 6 + 12 * i))?;
+    let totals = gather::totals_of(count, |i| block::block_behind(bytes, i))?;
     Ok(Mask { bytes, totals })
 }
 

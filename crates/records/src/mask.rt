@@ -3,7 +3,7 @@ ghost use Rattle.std.specs.Prelude.{◌≡◌, ◌+◌, ◌*◌, ◌<◌, ◌≤
 ghost use Rattle.model.specs.DashedString.{block_at};
 ghost use Rattle.records.specs.Mask.{count};
 
-use crate::block::block_from;
+use crate::block::block_behind;
 use crate::{Blocks, Totals, number};
 use model::Block;
 
@@ -32,14 +32,14 @@ impl<'a> Mask<'a> {
         requires { i < length (blocks_of self) }
         ensures { result ≡ block_at (blocks_of self.entry) i }
     {
-        block_from(self.bytes, 6 + 12 * i)
+        block_behind(self.bytes, i)
     }
 
     // Its blocks, from the first on.
     pub fn blocks(self) -> Blocks<'a>
         ensures { result ≡ blocks_of self.entry }
     {
-        crate::blocks(self.bytes)
+        Blocks::of(self.bytes)
     }
 
     // Copies its blocks into a slice of as many.

@@ -1,23 +1,18 @@
 -- `operations::place` meets its contract.
-use mathlib.Core.Path.{◌∙◌, sym}
-use Rattle.records.proofs.Answers.{mask_holds}
+use Rattle.std.proofs.Common.{◌∙◌, sym}
 use Rattle.std.proofs.lemmas.Result.{err_from_is_err_and}
-use Rattle.operations.proofs.Pairs.{pair_mask}
 use Rattle.operations.proofs.Placed.{place_refused, place_missing, place_answers}
 use Rattle.operations.proofs.place.Goals as goal
 
 pub returns-in_err-pair : goal.returns-in_err-pair
 returns-in_err-pair c =
     let p = err_from_is_err_and c.from_residual.result c.from_residual.ensures.1 in
-    rw (p.1, p.2) (place_refused _ _ _ _ _ (sym c.read_pair.ensures ∙ c.in_err-pair.was))
-
-pub missing-requires : goal.missing-requires
-missing-requires c = mask_holds _ _ (pair_mask _ _ _ (sym c.read_pair.ensures ∙ c.in_ok-pair.was))
+    rw (p.1, p.2) (place_refused _ _ _ _ _ (rw c.in_err-pair.was at c.read.ensures))
 
 pub returns-then-missing : goal.returns-then-missing
-returns-then-missing c = place_missing _ _ _ _ _ (sym c.read_pair.ensures ∙ c.in_ok-pair.was) (sym c.missing.ensures ∙ c.if-missing.true)
+returns-then-missing c = place_missing _ _ _ _ c.in_ok-pair.pair (rw c.in_ok-pair.was at c.read.ensures) (sym c.missing.ensures ∙ c.if-missing.true)
 
 pub returns : goal.returns
 returns c =
-    place_answers _ _ _ _ _ (sym c.read_pair.ensures ∙ c.in_ok-pair.was) _ (sym c.missing.ensures ∙ c.if-missing.false)
+    place_answers _ _ _ _ c.in_ok-pair.pair (rw c.in_ok-pair.was at c.read.ensures) _ (sym c.missing.ensures ∙ c.if-missing.false)
     c.place_entry.ensures

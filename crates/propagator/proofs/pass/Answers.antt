@@ -4,7 +4,7 @@ use native.Mathlib.Omega.{arith}
 use lib.ListN.{length, take}
 use lib.Seq.{take-take, length-take-le}
 use Rattle.propagator.proofs.Whole.{pass_inside, pass_none, pass_some}
-use Rattle.records.specs.Book.{automaton_of}
+use Rattle.records.specs.Read.{automaton}
 use Rattle.propagator.proofs.pass.Goals as goal
 use Rattle.propagator.proofs.pass.Goals.{After-intersection-end}
 
@@ -21,7 +21,7 @@ first c =
 pub go_back-requires-clause-inside : goal.go_back-requires-clause-inside
 go_back-requires-clause-inside c =
     let ahead = rw c.new-steps.ensures at c.go_ahead-states.ensures in
-    pass_inside (automaton_of c.args.book c.args.moves.now) _ _ _ _ c.add-start.ensures ahead.states ahead.entries _ c.intersection-end.ensures
+    pass_inside (automaton c.args.book) _ _ _ _ c.add-start.ensures ahead.states ahead.entries _ c.intersection-end.ensures
     _ (first (goal.at.go_back-requires-clause-inside c).After-intersection-end).0
 
 pub returns-then-end-ne0 : goal.returns-then-end-ne0

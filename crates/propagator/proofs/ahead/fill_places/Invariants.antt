@@ -1,10 +1,10 @@
 use mathlib.Core.Path.{◌≡◌}
-use Rattle.propagator.specs.Table.{table}
+use Rattle.records.specs.Read.{table}
 use Rattle.propagator.proofs.Forth.{Filling}
 use Rattle.propagator.proofs.ahead.fill_places.Given as goal
 
 abbrev pub invariant-loop-j : goal.invariant-loop-j
 invariant-loop-j l = let letters = l.initial.steps.letters in record {
   same : l.steps.letters ≡ letters;
-  filling : Filling (table letters.moves) letters.set l.from l.places l.set l.j;
+  filling : Filling (table letters.moves.table) letters.set l.from l.places l.set l.j;
 }

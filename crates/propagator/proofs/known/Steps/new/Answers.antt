@@ -11,5 +11,5 @@ invariant_of-result-2 c =
     record {
       states = λ q m. absurd (in_none m);
       images = λ d m. absurd (in_none m);
-      bounds = targets_given _ _ _ _ c.targets.ensures c.args.moves.small c.args.moves.enough;
+      bounds = targets_given _ _ c.targets.ensures c.args.moves.small c.args.moves.table.enough;
     }

@@ -1,5 +1,5 @@
 use mathlib.Core.Path.{◌≡◌}
-use Rattle.propagator.specs.Table.{table}
+use Rattle.records.specs.Read.{table}
 use Rattle.propagator.proofs.Remembered.{Imaging}
 use Rattle.propagator.proofs.known.Steps.step_by_letters.Given as goal
 
@@ -7,5 +7,5 @@ abbrev pub invariant-loop-c : goal.invariant-loop-c
 invariant-loop-c l = let letters = l.initial.self.letters in record {
   same : l.self.letters ≡ letters;
   from : l.self.from ≡ l.initial.self.from;
-  imaging : Imaging (table letters.moves) letters.set l.initial.self.from l.c-iterator l.found;
+  imaging : Imaging (table letters.moves.table) letters.set l.initial.self.from l.c-iterator l.found;
 }

@@ -8,7 +8,7 @@ use Rattle.model.specs.Automaton.{next}
 use Rattle.bitset.proofs.Going.{in_order, called_at_each}
 use Rattle.bitset.proofs.Listed.{any_listed}
 use Rattle.propagator.specs.Moves.{leads}
-use Rattle.propagator.specs.Table.{table}
+use Rattle.records.specs.Read.{table}
 use Rattle.propagator.proofs.letters.Letters.some_letter_to.Goals as goal
 
 pub any-requires-clause-callable : goal.any-requires-clause-callable
@@ -17,5 +17,5 @@ any-requires-clause-callable c = called_at_each _ _ c.members.ensures (λ x q s.
 pub returns : goal.returns
 unfolding leads
 returns c =
-    any_from_yields_List (λ x. has c.args.end (next (table c.args.self.moves) c.args.q x)) _ _ _ c.any.ensures.ran (in_order _ _ c.members.ensures) (λ x b q s. search (rules, tests))
-    ∙ any_listed c.args.self.set (λ x. has c.args.end (next (table c.args.self.moves) c.args.q x))
+    any_from_yields_List (λ x. has c.args.end (next (table c.args.self.moves.table) c.args.q x)) _ _ _ c.any.ensures.ran (in_order _ _ c.members.ensures) (λ x b q s. search (rules, tests))
+    ∙ any_listed c.args.self.set (λ x. has c.args.end (next (table c.args.self.moves.table) c.args.q x))

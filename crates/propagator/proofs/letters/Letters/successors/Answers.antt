@@ -8,7 +8,7 @@ use Rattle.model.specs.Automaton.{next}
 use Rattle.model.specs.Passes.{reach}
 use Rattle.bitset.proofs.Going.{in_order, called_with_each}
 use Rattle.bitset.proofs.Listed.{union_listed}
-use Rattle.propagator.specs.Table.{table}
+use Rattle.records.specs.Read.{table}
 use Rattle.propagator.proofs.letters.Letters.successors.Goals as goal
 
 pub fold-requires-clause-callable : goal.fold-requires-clause-callable
@@ -17,5 +17,5 @@ fold-requires-clause-callable c = called_with_each _ _ c.members.ensures (λ b x
 pub returns : goal.returns
 unfolding reach
 returns c =
-    fold_from_yields_List _ (λ a x. either a (2 ^ next (table c.args.self.moves) c.args.q x)) 0 _ c.fold.ensures.ran (in_order _ _ c.members.ensures) (λ a x b q s. search rules)
-    ∙ union_listed c.args.self.set (λ x. 2 ^ next (table c.args.self.moves) c.args.q x)
+    fold_from_yields_List _ (λ a x. either a (2 ^ next (table c.args.self.moves.table) c.args.q x)) 0 _ c.fold.ensures.ran (in_order _ _ c.members.ensures) (λ a x b q s. search rules)
+    ∙ union_listed c.args.self.set (λ x. 2 ^ next (table c.args.self.moves.table) c.args.q x)

@@ -8,7 +8,7 @@ use Rattle.model.specs.Automaton.{next}
 use Rattle.bitset.proofs.Going.{in_order, called_with_each}
 use Rattle.bitset.proofs.Listed.{union_listed}
 use Rattle.propagator.specs.Known.{image}
-use Rattle.propagator.specs.Table.{table}
+use Rattle.records.specs.Read.{table}
 use Rattle.propagator.proofs.moving.Moves.image.Goals as goal
 
 pub fold-requires-clause-callable : goal.fold-requires-clause-callable
@@ -17,5 +17,5 @@ fold-requires-clause-callable c = called_with_each _ _ c.members.ensures (λ b x
 pub returns : goal.returns
 unfolding image
 returns c =
-    fold_from_yields_List _ (λ a x. either a (2 ^ next (table c.args.self) x c.args.c)) 0 _ c.fold.ensures.ran (in_order _ _ c.members.ensures) (λ a x b q s. search rules)
-    ∙ union_listed c.args.from (λ x. 2 ^ next (table c.args.self) x c.args.c)
+    fold_from_yields_List _ (λ a x. either a (2 ^ next (table c.args.self.table) x c.args.c)) 0 _ c.fold.ensures.ran (in_order _ _ c.members.ensures) (λ a x b q s. search rules)
+    ∙ union_listed c.args.from (λ x. 2 ^ next (table c.args.self.table) x c.args.c)

@@ -6,10 +6,10 @@ use Rattle.propagator.proofs.Targets.{targets_are}
 use Rattle.propagator.proofs.moving.Moves.targets.Goals as goal
 
 pub overflow_sub-states : goal.overflow_sub-states
-overflow_sub-states c = omega (arith, pow_pos c.args.self.states, pow-lt {i = c.args.self.states} {j = 64} c.args.self.small)
+overflow_sub-states c = omega (arith, pow_pos c.args.self.table.states, pow-lt {i = c.args.self.table.states} {j = 64} c.args.self.small)
 
 pub returns-then-some_missing : goal.returns-then-some_missing
-returns-then-some_missing c = c.add.ensures ∙ (targets_are _ _ c.args.self.small).0 (sym c.some_missing.ensures ∙ c.if-some_missing.true)
+returns-then-some_missing c = c.add.ensures ∙ (targets_are _ c.args.self.small).0 (sym c.some_missing.ensures ∙ c.if-some_missing.true)
 
 pub returns : goal.returns
-returns c = (targets_are _ _ c.args.self.small).1 (sym c.some_missing.ensures ∙ c.if-some_missing.false)
+returns c = (targets_are _ c.args.self.small).1 (sym c.some_missing.ensures ∙ c.if-some_missing.false)
