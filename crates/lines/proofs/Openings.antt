@@ -6,7 +6,7 @@ use mathlib.Core.List.{List, [], ◌++◌, append-nil}
 use native.Mathlib.Nat.{mul-le-mul}
 use native.Mathlib.Omega.{arith}
 use lib.ListN.{take, drop}
-use lib.Seq.{take-append-le, drop-append-le}
+use lib.Seq.{take-append-le, drop-append-le, length-take-le}
 use Rattle.std.specs.Prelude.{Err}
 use Rattle.model.specs.declared.Refusal.{Refusal}
 use Rattle.model.specs.declared.Refusal.TheVariants.{Unframed}
@@ -19,14 +19,14 @@ use Rattle.stream.specs.Stream.{next}
 use Rattle.stream.proofs.Following.{whole_behind, short_behind}
 use Rattle.lines.specs.Line.{book_line}
 use Rattle.lines.specs.Output.{lines_from, book_line_or, output}
-use Rattle.lines.proofs.Stepping.{whole_fits, whole_within}
+use Rattle.lines.proofs.Stepping.{whole_fits}
 
 -- an accepted book has at most 15 + 63 × 64 bytes
 pub book_few : (input : List ℕ) (k : ℕ) → Whole k ≡ next input → book_refusal (take k input) ≡ accepted → k ≤ 4047
 book_few input k whole none =
     let it = book_record (take k input) none in
     let states : (book_head (take k input)).states ≤ 63 = omega (arith, it.sound.states) in
-    omega (arith, it.size, whole_within input k whole, mul-le-mul states it.sound.letters)
+    omega (arith, it.size, length-take-le k input (whole_fits input k whole), mul-le-mul states it.sound.letters)
 
 -- a refused book's line is all that is printed
 pub taken_refused : (bs lines : List ℕ) (r : Refusal) → ReadsBook bs (Err r) → book_line_or (book_refusal bs) lines ≡ book_line r
@@ -62,3 +62,6 @@ module _ (input : List ℕ) where
     pub opens_end : End ≡ next input → output (input ++ later) ≡ book_line Unframed
     unfolding output
     opens_end e = rw (none, append-nil, ← e)
+
+-- by what stands first, what is printed
+pub ruleset openings = (whole_fits, length-take-le, book_few, opens_book, opens_refused, opens_short, opens_cut, opens_end)

@@ -17,9 +17,6 @@ use Rattle.lines.specs.Output.{by_next, mask_lines, lines_from}
 pub whole_fits : (input : List ℕ) (k : ℕ) → Whole k ≡ next input → k ≤ length input
 whole_fits input k e = let (_, _, _, fits) = tell input (Whole k) e in fits
 
-pub whole_within : (input : List ℕ) (k : ℕ) → Whole k ≡ next input → length (take k input) ≡ k
-whole_within input k e = length-take-le k input (whole_fits input k e)
-
 -- ---- one mask
 
 module _ (bs s : List ℕ) (n : ℕ) (below : n ≤ 4294967295) where
@@ -50,3 +47,6 @@ module _ (bs rest : List ℕ) (n : ℕ) (below : n ≤ 4294967295) where
 
     pub end_lines : End ≡ next rest → lines_from bs n (rest ++ later) ≡ []
     end_lines e = rw (none, append-nil) (one_more bs rest n below ∙ rw (← e))
+
+-- by what stands next, what the lines are
+pub ruleset next_lines = (whole_fits, length-take-le, whole_lines, short_lines, cut_lines, end_lines)

@@ -7,7 +7,7 @@ use model::Refusal;
 use stream::Next;
 
 // How many bytes the book has that `input` begins with, or its refusal; `None` where more input is wanted.
-#[tactic(auto, using(crate::proofs::Stepping::whole_fits, crate::proofs::Stepping::whole_within, crate::proofs::Openings::book_few, crate::proofs::Openings::opens_book, crate::proofs::Openings::opens_refused, crate::proofs::Openings::opens_short, crate::proofs::Openings::opens_cut, crate::proofs::Openings::opens_end))]
+#[tactic(auto, using(crate::proofs::Openings::openings))]
 pub fn open(input: Part) -> Result<Option<usize>, Refusal>
     ensures { Opens input.entry.bytes.now input.entry.ended result }
 {
