@@ -1,6 +1,6 @@
 -- The numbers of the entries of the narrowed list.
 -- Assumes nothing.
-use Prim.Native.Nat.{ℕ, zero, suc, ◌+◌, ◌-◌, ◌^◌, ◌≤◌, ◌<◌}
+use Prim.Native.Nat.{ℕ, zero, suc, ◌+◌, ◌^◌, ◌≤◌, ◌<◌}
 use mathlib.Core.Path.{◌≡◌, refl}
 use mathlib.Core.List.{List, [], ◌∷◌, map}
 use native.Mathlib.Omega.{arith}
@@ -48,17 +48,8 @@ module _ (m : ℕ) (xs : List Block) (fits : Fits m xs) where
         let inside = rw (← begin, ← is) at (begins_within xs i h) in
         omega (arith, inside, (passes_fit m xs fits).0, fits.few, fits.room.sum)
 
-    -- the optional part is behind its places
-    pub optional_entry : (j : ℕ) → j ≡ 0 → first + x.lower ≡ entry_of xs i j
-    optional_entry j z = rw (z, begin, is)
-
   -- where the entries of a block begin is a small number
   pub begins_few : (i : ℕ) → i < length xs → sum (map entries_of (take i xs)) < 2 ^ 64
   begins_few i h =
       let few = entries_few i _ _ h refl refl in
       rw (sum-map entries_of (take i xs), begins_sum) (omega (arith, few))
-
--- the entry of a place
-pub mandatory_entry : (xs : List Block) (i first j : ℕ) → first ≡ begins xs i → ¬ (j ≡ 0) → first + (j - 1) ≡ entry_of xs i j
-mandatory_entry xs i first zero e n = absurd (n refl)
-mandatory_entry xs i first (suc j) e n = rw e (omega arith)

@@ -1,6 +1,6 @@
 -- What narrow promises, from what its steps give.
 -- Assumes nothing.
-use Prim.Native.Nat.{ℕ, ◌+◌, ◌-◌, ◌*◌, ◌^◌, ◌≤◌, ◌<◌}
+use Prim.Native.Nat.{ℕ, ◌+◌, ◌*◌, ◌^◌, ◌≤◌, ◌<◌}
 use Rattle.std.proofs.Common.{Option, Result, Ok, Err}
 use Rattle.std.proofs.Common as option
 use mathlib.Core.Path.{◌≡◌, refl, ◌∙◌, sym, ap, subst}
@@ -10,8 +10,7 @@ use mathlib.Core.List.{List}
 use native.Mathlib.Omega.{arith}
 use borrow.Author.Tests.{le-ltb}
 use lib.Dec.{T}
-use lib.ListN.{length, take, drop, length-drop}
-use lib.Seq.{take_all}
+use lib.ListN.{length, take}
 use Rattle.model.specs.declared.Block.{Block}
 use Rattle.model.specs.declared.Refusal.{Refusal}
 use Rattle.model.specs.declared.Refusal.TheVariants as refusal
@@ -43,32 +42,11 @@ use Rattle.records.proofs.Over.{take_over}
 use Rattle.records.proofs.RoundTrip.{length_mask, reads_back}
 use Rattle.records.proofs.WellFormed.{checked}
 use Rattle.operations.specs.declared.Narrowed.{Narrowed}
-use Rattle.operations.specs.Buffer.{room_refusal, Puts}
+use Rattle.operations.specs.Buffer.{room_refusal}
 use Rattle.operations.specs.Pair.{Given, from_record, given_refusal, pair_refusal}
 use Rattle.operations.specs.Narrow.{written, narrow_record, narrow_refusal, narrowed, narrow_buffer, narrow_numbers, Narrows, Answers}
-use Rattle.operations.proofs.Order.{same_refusal}
 use Rattle.operations.proofs.Pairs.{given_checks, pair_room}
 use Rattle.operations.proofs.Passing.{found_legal}
-
--- ---- a verdict answered with its record, or 10
-
--- the rest of a list, from entry n on, as it is lent
-pub lent_rest : (n : ℕ) (xs ys : List Block) → drop n xs ≡ ys → take (length xs - n) (drop n xs) ≡ ys
-lent_rest n xs ys e = take_all (length xs - n) (drop n xs) (omega (arith, length-drop n xs)) ∙ e
-
--- the normal form zs, made as ys, was put into a buffer
-module _ (ys zs : List Block) (made : ys ≡ zs) (old new : List ℕ) (got : Result ℕ Refusal) (put : Puts (mask_bytes ys) old new got) where
-  -- which is shorter
-  pub conclude_short : (r : Refusal) → got ≡ Err r → (v : Verdict) → Answers v (mask_bytes zs) old new (Err r)
-  conclude_short r is v =
-      rw (← made) (record { answer = same_refusal (room_refusal (mask_bytes ys) (length old)) _ _ r (sym is ∙ put.answer); buffer = put.buffer })
-
-  -- or has room
-  pub conclude_put : (n : ℕ) → got ≡ Ok n → (illegal singles : Bool) (v : Verdict) → singles ≡ every single ys → v ≡ say true illegal singles
-      → Answers (say true illegal (every single zs)) (mask_bytes zs) old new (Ok (record { verdict = v; bytes = n }))
-  conclude_put n is illegal singles v t e =
-      let (passes, size) = unless_ok (room_refusal (mask_bytes ys) (length old)) _ n (sym put.answer ∙ is) in
-      rw (← made, ← t, ← e) (record { answer = rw (passes, size); buffer = put.buffer })
 
 -- ---- what is written, read back
 
@@ -202,6 +180,11 @@ module _
       answering g none given_fits old new a (rw (legal.1 n, written_said) (rw (found, there, ap (λ d. d.accepting) is) at h))
 
 -- ---- beside
+
+-- what holds of a mask's blocks, copied, holds of the mask
+pub narrow_record_lem : (bs ms : List ℕ) (xs : List Block) → xs ≡ mask_of ms → mask_refusal ms ≡ accepted → (old new : List ℕ) (a : Result Narrowed Refusal)
+    → Narrows (record { book = bs; blocks = xs; failing = accepted }) old new a → Narrows (from_record bs ms) old new a
+narrow_record_lem bs ms xs e none old new a h = rw none (rw e at h)
 
 -- the refusal number at the host is that of the checks
 pub narrow_refusal_number : (g : Given) (room : ℕ) → (narrow_numbers (narrowed g room)).refusal ≡ option_map_or number (narrow_refusal g room) 0

@@ -1,15 +1,10 @@
 -- Checks in order, and answers that are refusals: what each tells of the others.
 -- Assumes nothing.
-use Rattle.std.proofs.Common.{◌≡◌, Option, None, Some, Err, refl}
+use Rattle.std.proofs.Common.{◌≡◌, Option, None, Some, refl}
 use Rattle.model.specs.declared.Refusal.{Refusal}
-use Rattle.model.specs.Refusal.{accepted, and_then, unless}
+use Rattle.model.specs.Refusal.{accepted, and_then}
 
 -- where nothing is refused, neither the first checks nor the next ones refuse
 pub passed_first : (r next : Option Refusal) → and_then r next ≡ accepted → (r ≡ accepted) × (next ≡ accepted)
 passed_first None next h = (refl, h)
 passed_first (Some r) next h = cc
-
--- the same refusal, in place of another value
-pub same_refusal : {A B : Type 0} (o : Option Refusal) (x : A) (y : B) (r : Refusal) → Err r ≡ unless o x → Err r ≡ unless o y
-same_refusal None x y r e = cc
-same_refusal (Some s) x y r e = let same : r ≡ s = cc in rw same

@@ -37,6 +37,7 @@ fn write_joined(mask: Mask, out: &mut [u8])
 
 // Writes the normal form of a mask over the first bytes of `out`, where they have room for it: one walk counts its blocks, a
 // second writes them.
+#[tactic(auto, using(crate::proofs::Joining::joined_few))]
 pub(crate) fn write_tidied(mask: Mask, out: &mut [u8]) -> Result<u32, Refusal>
     requires { Fits 64 (blocks_of mask) }
     ensures { Puts (tidy_record mask.entry.bytes.now) out.old out.new result }

@@ -72,6 +72,7 @@ pub fn tidy(mask: &[u8], out: &mut [u8]) -> Result<u32, Refusal>
 
 // Place: the set and bounds of a block, from 1, and a place, in the narrowed list before dropping or joining; place 0 is the
 // optional part. Book checks, mask checks, 9, 11.
+#[tactic(auto, using(std::proofs::lemmas::Result::err_from_is_err_and, crate::proofs::Placed::place_refused, crate::proofs::Placed::place_missing))]
 pub fn place(book: &[u8], mask: &[u8], block: u32, place: u32) -> Result<Block, Refusal>
     ensures { Places book.now mask.now block place result }
 {
@@ -86,6 +87,7 @@ pub fn place(book: &[u8], mask: &[u8], block: u32, place: u32) -> Result<Block, 
 
 // Try: whether the mask spells a code, one letter number a byte, and whether the book accepts it. Book checks, mask checks,
 // 9, 12, 13.
+#[tactic(auto, using(crate::proofs::Trying::try_letters))]
 pub fn try_word(book: &[u8], mask: &[u8], word: &[u8]) -> Result<Tried, Refusal>
     ensures { Tries book.now mask.now word.now result }
 {

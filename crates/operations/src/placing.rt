@@ -44,6 +44,7 @@ fn entry_of(pair: Pair, block: usize, place: usize) -> usize
 }
 
 // The set and bounds of a block, from 1, and a place that are not missing.
+#[tactic(auto, using(crate::proofs::EntryNumbers::entry_within, crate::proofs::Placed::none_missing), unfolding(model::specs::Place::place))]
 pub(crate) fn place_entry(pair: Pair, block: usize, place: usize) -> Block
     requires { absent (blocks_of pair.mask) block place ≡ false }
     ensures { result ≡ placed (automaton pair.entry.book) (blocks_of pair.entry.mask) block place }

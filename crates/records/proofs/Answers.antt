@@ -1,13 +1,15 @@
 -- What a reader's answer tells, for who takes it apart.
 -- Assumes nothing.
-use Rattle.std.proofs.Common.{◌≡◌, ℕ, Option, None, Some, Ok, Err, List, refl}
+use Rattle.std.proofs.Common.{◌≡◌, ℕ, Option, None, Some, Ok, Err, ◌+◌, ◌*◌, ◌≤◌, List, length, refl, arith}
 use Rattle.model.specs.declared.Refusal.{Refusal}
 use Rattle.model.specs.Refusal.{accepted, unless}
 use Rattle.records.specs.declared.book.Book.{Book}
 use Rattle.records.specs.declared.mask.Mask.{Mask}
 use Rattle.records.specs.Book.{book_of, book_refusal}
-use Rattle.records.specs.Mask.{mask_of, totals_of, mask_refusal}
-use Rattle.records.specs.Read.{automaton, ReadsBook, ReadsMask}
+use Rattle.records.specs.Mask.{count, mask_of, totals_of, mask_refusal}
+use Rattle.records.specs.Read.{automaton, blocks_of, ReadsBook, ReadsMask}
+use Rattle.records.proofs.Offsets.{blocks_counted}
+use Rattle.records.proofs.WellFormed.{mask_record}
 
 -- a value: nothing refused it
 pub unless_ok : {A : Type 0} (o : Option Refusal) (x y : A) → unless o x ≡ Ok y → (o ≡ accepted) × (y ≡ x)
@@ -31,6 +33,10 @@ book_refused bs r h = h
 pub mask_accepted : (bs : List ℕ) (m : Mask) → ReadsMask bs (Ok m)
     → (mask_refusal bs ≡ accepted) × (m.bytes.now ≡ bs) × (m.totals ≡ totals_of (mask_of bs))
 mask_accepted bs m h = h
+
+-- and its bytes are those of as many blocks as they say
+pub mask_holds : (bs : List ℕ) (m : Mask) → ReadsMask bs (Ok m) → (length (blocks_of m) ≡ count bs) × (6 + 12 * count bs ≤ length bs)
+mask_holds bs m h = (rw h.1 (blocks_counted bs), omega (arith, (mask_record bs h.0).size))
 
 -- a refusal: the checks gave it
 pub mask_refused : (bs : List ℕ) (r : Refusal) → ReadsMask bs (Err r) → mask_refusal bs ≡ Some r

@@ -1,10 +1,8 @@
--- The blocks of a mask by their numbers, and their copies.
+-- The blocks of a mask by their numbers.
 -- Assumes nothing.
-use Rattle.std.proofs.Common.{◌≡◌, ℕ, ◌+◌, ◌<◌, ◌≤◌, List, [], ◌∷◌, length, take, set, refl, ◌∙◌, ap, add-one, arith, take_all}
-use Rattle.std.proofs.lemmas.List.{take_more_set}
-use lib.Seq.{take-suc}
+use Rattle.std.proofs.Common.{◌≡◌, ℕ, List, [], ◌∷◌, length, refl, ap}
 use Rattle.model.specs.declared.Block.{Block}
-use Rattle.model.specs.DashedString.{block, block_at, values}
+use Rattle.model.specs.DashedString.{block_at, values}
 use Rattle.records.specs.Mask.{count, mask_of}
 use Rattle.records.proofs.Offsets.{blocks_counted}
 
@@ -16,12 +14,3 @@ values_all (x ∷ xs) = ap (◌∷◌ x) (values_all xs)
 -- the blocks of a mask, by their numbers
 pub record_values : (bs : List ℕ) → values (block_at (mask_of bs)) (count bs) ≡ mask_of bs
 record_values bs = rw (blocks_counted bs) at (values_all (mask_of bs))
-
--- one block more is copied
-pub copied_more : (xs ys : List Block) (i : ℕ) → i < length ys → length ys ≡ length xs → take i ys ≡ take i xs
-    → take (i + 1) (set ys i (block_at xs i)) ≡ take (i + 1) xs
-copied_more xs ys i h l e = take_more_set ys i (block_at xs i) h ∙ rw (e, add-one i, take-suc xs i (block 0 0 0) (omega arith))
-
--- all are copied
-pub copied_all : (xs ys : List Block) (i : ℕ) → length ys ≡ length xs → length ys ≤ i → take i ys ≡ take i xs → ys ≡ xs
-copied_all xs ys i l h e = rw (take_all i ys h, take_all i xs (omega arith)) at e

@@ -35,11 +35,6 @@ pub values_more : (f : ℕ → Block) (i : ℕ) → values f (suc i) ≡ values 
 values_more f zero = refl
 values_more f (suc i) = ap (◌∷◌ (f 0)) (values_more (λ j. f (suc j)) i)
 
--- as many values as asked for
-pub length_values : (f : ℕ → Block) (i : ℕ) → length (values f i) ≡ i
-length_values f zero = refl
-length_values f (suc i) = ap suc (length_values (λ j. f (suc j)) i)
-
 -- the bytes of one block more
 blocks_more : (xs : List Block) (x : Block) → blocks_bytes (xs ++ x ∷ []) ≡ blocks_bytes xs ++ block_bytes x
 unfolding blocks_bytes

@@ -5,7 +5,7 @@ use Rattle.std.proofs.lemmas.Bool.Decides.{nat_tests}
 use Rattle.model.specs.declared.Block.{Block}
 use Rattle.model.specs.Refusal.{accepted, refuse}
 use Rattle.model.specs.Set.{Member, some_from}
-use Rattle.model.specs.DashedString.{block_at, Each, Bounded}
+use Rattle.model.specs.DashedString.{Each, Bounded}
 use Rattle.model.specs.Automaton.{Dfa}
 use Rattle.model.specs.Legal.{Checked}
 use Rattle.model.specs.Size.{uppers, WellFormed, Fits}
@@ -135,11 +135,6 @@ each_bytes : (bs : List ℕ) → Bytes bs → (k i : ℕ) → Each Wide (blocks_
 unfolding block_from blocks_from
 each_bytes bs h zero i = tt
 each_bytes bs h (suc k) i = (number_lt 8 bs i h, each_bytes bs h k (i + 12))
-
--- and in a slice of blocks
-pub slice_wide : (xs : List Block) → ((i : ℕ) → i < length xs → Wide (block_at xs i)) → Each Wide xs
-slice_wide [] h = tt
-slice_wide (x ∷ xs) h = (h 0 (omega arith), slice_wide xs (λ i l. h (suc i) (omega arith)))
 
 -- every letter of the block is below m
 abbrev pub Native : ℕ → Block → Type 0

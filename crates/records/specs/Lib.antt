@@ -1,5 +1,6 @@
 -- What the bytes of records mean, and when a record is refused (01, "Records", and the checks).
 pub mod Bytes
+pub mod Kinds
 pub mod Check
 pub mod Book
 pub mod Mask

@@ -2,9 +2,28 @@
 ghost use Rattle.std.specs.Prelude.{◌≡◌, ◌≤◌, length};
 ghost use Rattle.model.specs.Refusal.{unless};
 ghost use Rattle.records.specs.Check as spec;
+ghost use Rattle.records.specs.Kinds.{kind_number};
 
 use crate::number;
 use model::Refusal;
+
+// What a record is, by the number in its head.
+#[derive(Clone, Copy)]
+pub(crate) enum Kind {
+    Book = 1,
+    Mask = 2,
+}
+
+impl Kind {
+    ghost use Rattle.records.specs.Kinds.{kind_number};
+
+    // Its number.
+    pub(crate) fn number(self) -> u64
+        ensures { result ≡ kind_number self }
+    {
+        self as u64
+    }
+}
 
 // Check 1: whether there are fewer than 4 bytes, or the length field isn't their number.
 #[tactic(auto, unfolding(crate::specs::Check::unframed))]
@@ -16,13 +35,13 @@ fn unframed(bytes: &[u8]) -> bool
 
 // Checks 1 to 3 of a record of the kind asked for, whose head has `head` bytes.
 #[tactic(auto, using(crate::proofs::Checks::framing), unfolding(model::specs::Refusal::refuse, crate::specs::Check::frame_refusal))]
-pub(crate) fn check(bytes: &[u8], asked: u64, head: usize) -> Result<(), Refusal>
-    ensures { result ≡ unless (spec.frame_refusal asked head bytes.now) tt }
+pub(crate) fn check(bytes: &[u8], asked: Kind, head: usize) -> Result<(), Refusal>
+    ensures { result ≡ unless (spec.frame_refusal (kind_number asked) head bytes.now) tt }
 {
     if unframed(bytes) {
         return Err(Refusal::Unframed);
     }
-    if kind(bytes) != asked {
+    if kind_field(bytes) != asked.number() {
         return Err(Refusal::Kind);
     }
     if bytes.len() < head {
@@ -40,7 +59,7 @@ pub fn length_field(bytes: &[u8]) -> usize
 }
 
 // The kind of a record.
-fn kind(bytes: &[u8]) -> u64
+fn kind_field(bytes: &[u8]) -> u64
     requires { 4 ≤ length bytes.now }
     ensures { result ≡ spec.kind bytes.now }
 {

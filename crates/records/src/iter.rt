@@ -27,6 +27,7 @@ impl<'a> Model for Blocks<'a> {
 
 impl<'a> Blocks<'a> {
     // All blocks of a mask.
+    #[tactic(auto, unfolding(crate::specs::Mask::mask_of))]
     pub(crate) fn of(bytes: &'a [u8]) -> Blocks<'a>
         requires { 6 + 12 * count bytes.now ≤ length bytes.now }
         ensures { result ≡ mask_of bytes.now }
@@ -43,6 +44,7 @@ impl<'a> Iterator for Blocks<'a> {
 
     ghost remaining = { item_count (λ s. s) };
 
+    #[tactic(auto, using(crate::proofs::Offsets::no_block, crate::proofs::Offsets::first_block))]
     fn next(&mut self) -> Option<Block> {
         if self.left == 0 {
             return None;

@@ -23,6 +23,7 @@ mod table;
 mod writer;
 
 pub use book::Book;
+use frame::Kind;
 pub use frame::length_field;
 pub use iter::Blocks;
 pub use mask::Mask;
@@ -42,7 +43,7 @@ pub struct Totals {
 pub fn read_book<'a>(bytes: &'a [u8]) -> Result<Book<'a>, Refusal>
     ensures { ReadsBook bytes.now result }
 {
-    frame::check(bytes, 1, 15)?;
+    frame::check(bytes, Kind::Book, 15)?;
     let head = automaton::read_head(bytes);
     if automaton::out_of_range(head) {
         return Err(Refusal::OutOfRange);
@@ -71,7 +72,7 @@ pub fn read_book<'a>(bytes: &'a [u8]) -> Result<Book<'a>, Refusal>
 pub fn read_mask<'a>(bytes: &'a [u8]) -> Result<Mask<'a>, Refusal>
     ensures { ReadsMask bytes.now result }
 {
-    frame::check(bytes, 2, 6)?;
+    frame::check(bytes, Kind::Mask, 6)?;
     let count = number::read(bytes, 4, 2) as usize;
     if 1024 < count {
         return Err(Refusal::OutOfRange);
@@ -107,12 +108,13 @@ pub fn some_foreign(totals: Totals, letters: usize) -> bool
 }
 
 // Writes the six head bytes of a mask of `count` blocks over the first bytes of `out`.
+#[tactic(auto, using(crate::proofs::Stores::three_stored), unfolding(crate::specs::Written::head_bytes))]
 pub fn write_head(count: usize, out: &mut [u8])
     requires { 6 + 12 * count ≤ length out.old }
     ensures { out.new ≡ sets out.old 0 (head_bytes count) }
 {
     number::write(out, 0, 2, (6 + 12 * count) as u64);
-    number::write(out, 2, 2, 2);
+    number::write(out, 2, 2, Kind::Mask.number());
     number::write(out, 4, 2, count as u64);
 }
 

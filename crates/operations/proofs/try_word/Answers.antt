@@ -1,7 +1,7 @@
 -- `operations::try_word` meets its contract.
 use Rattle.std.proofs.Common.{◌∙◌, sym, arith}
 use Rattle.std.proofs.lemmas.Result.{err_from_is_err_and}
-use Rattle.operations.proofs.Trying.{try_refused, try_long, try_strange, try_answers, try_letters}
+use Rattle.operations.proofs.Trying.{try_refused, try_long, try_strange, try_answers}
 use Rattle.operations.proofs.try_word.Goals as goal
 
 pub returns-in_err-pair : goal.returns-in_err-pair
@@ -15,14 +15,6 @@ returns-then-word-gt1024 c = try_long _ _ _ c.in_ok-pair.pair (rw c.in_ok-pair.w
 pub returns-then-some_strange : goal.returns-then-some_strange
 returns-then-some_strange c =
     try_strange _ _ _ c.in_ok-pair.pair (rw c.in_ok-pair.was at c.read.ensures) (omega arith) (sym c.some_strange.ensures ∙ c.if-some_strange.true)
-
-pub spells-requires : goal.spells-requires
-spells-requires c =
-    record { short = (omega arith, (try_letters _ _ _ c.in_ok-pair.pair (rw c.in_ok-pair.was at c.read.ensures) (omega arith) (sym c.some_strange.ensures ∙ c.if-some_strange.false)).1) }
-
-pub accepts-requires : goal.accepts-requires
-accepts-requires c =
-    record { letters = (try_letters _ _ _ c.in_ok-pair.pair (rw c.in_ok-pair.was at c.read.ensures) (omega arith) (sym c.some_strange.ensures ∙ c.if-some_strange.false)).0 }
 
 pub returns : goal.returns
 returns c =
