@@ -1,10 +1,9 @@
 -- The line of a mask, by what narrow promises of its answer in a buffer that suffices.
 -- Assumes nothing.
 use Prim.Native.Nat.{ℕ, ◌≤◌}
-use mathlib.Core.Path.{◌≡◌, refl, sym, ◌∙◌, ap}
+use mathlib.Core.Path.{◌≡◌, refl, sym, ap}
 use mathlib.Core.Logic.{inl, inr}
 use mathlib.Core.List.{List}
-use native.Mathlib.Omega.{arith}
 use lib.ListN.{length, take}
 use Rattle.std.specs.Prelude.{Result, Ok, Err}
 use Rattle.model.specs.declared.Block.{Block}
@@ -16,10 +15,10 @@ use Rattle.model.specs.Verdict.{narrowed_mask}
 use Rattle.model.proofs.Room.{mask_fits}
 use Rattle.records.specs.Bytes.{Bytes, number_at}
 use Rattle.records.specs.Book.{book_head, book_of}
-use Rattle.records.specs.Mask.{count, mask_of, blocks_from}
+use Rattle.records.specs.Mask.{mask_of, blocks_from}
 use Rattle.records.specs.Written.{mask_bytes}
-use Rattle.records.proofs.Offsets.{blocks_counted}
-use Rattle.records.proofs.RoundTrip.{length_mask, reads_back}
+use Rattle.records.proofs.RoundTrip.{reads_back}
+use Rattle.records.proofs.WellFormed.{mask_record}
 use Rattle.operations.specs.declared.Narrowed.{Narrowed}
 use Rattle.operations.specs.Pair.{from_record}
 use Rattle.operations.specs.Narrow.{written, Narrows}
@@ -30,10 +29,7 @@ use Rattle.lines.specs.Sums.{Recorded}
 
 -- a mask as a record
 record_mask : (m : ℕ) (ys : List Block) → Fits m ys → Recorded (mask_bytes ys) × (mask_of (mask_bytes ys) ≡ ys)
-record_mask m ys fits =
-    let (_, same, _) = reads_back m ys fits in
-    let many : count (mask_bytes ys) ≡ length ys = sym (blocks_counted (mask_bytes ys)) ∙ ap length same in
-    (inr (record { counted = refl; whole = omega (arith, many, length_mask ys); few = omega (arith, many, fits.few) }), same)
+record_mask m ys fits = let (passed, same, _) = reads_back m ys fits in (inr (mask_record (mask_bytes ys) passed), same)
 
 -- what is written for a verdict, as a record and as blocks
 record_of : (m : ℕ) (v : Verdict) (ys : List Block) → Fits m ys

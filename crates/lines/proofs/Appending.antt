@@ -9,10 +9,7 @@ use native.Mathlib.Omega.{arith}
 use borrow.Author.Tests.{lt-ltb, le-ltb}
 use lib.Dec.{ltb}
 use lib.ListN.{length, take, length-append}
-use Rattle.model.specs.declared.Verdict.{Verdict}
-use Rattle.model.specs.declared.Verdict.TheVariants.{None, All, One, Some}
 use Rattle.io.specs.Digits as io
-use Rattle.model.specs.Verdict.{word}
 use Rattle.lines.specs.Text.{digits, decimal}
 use Rattle.lines.specs.Line.{spaced}
 
@@ -62,10 +59,3 @@ decimal_few text n = omega (arith, length-append text (decimal n), digits_few 20
 -- and one more with the blank before it
 pub spaced_few : (text : List ℕ) (n : ℕ) → length (text ++ spaced n) ≤ length text + 21
 spaced_few text n = omega (arith, length-append text (spaced n), digits_few 20 n)
-
--- a verdict's word takes at most 4
-pub word_few : (v : Verdict) → length (word v) ≤ 4
-word_few None = omega arith
-word_few All = omega arith
-word_few One = omega arith
-word_few Some = omega arith

@@ -1,16 +1,16 @@
 -- The lines of a part of the input, mask by mask.
 -- Assumes nothing.
 use Prim.Native.Nat.{ℕ, ◌+◌, ◌-◌, ◌≤◌, ◌<◌}
-use mathlib.Core.Path.{◌≡◌, refl, sym, ◌∙◌, ap}
+use mathlib.Core.Path.{◌≡◌, sym, ◌∙◌, ap}
 use mathlib.Core.Bool.{Bool}
 use mathlib.Core.List.{List, ◌++◌, append-nil, append_assoc}
 use native.Mathlib.Omega.{arith}
 use lib.ListN.{length, take, drop, length-append, length-take, length-drop}
 use lib.Seq.{drop-drop, length-take-le, take-append-add, take-append-le}
 use Rattle.records.proofs.Over.{part_rest}
-use Rattle.lines.specs.declared.Pause.TheVariants.{Full, More, Done}
+use Rattle.lines.specs.declared.Pause.TheVariants.{Done}
 use Rattle.lines.specs.declared.masks.Step.{Step}
-use Rattle.lines.specs.declared.masks.Step.TheVariants.{Passed, Last, Wanting}
+use Rattle.lines.specs.declared.masks.Step.TheVariants.{Passed, Last}
 use Rattle.lines.specs.Output.{mask_lines, lines_from}
 use Rattle.lines.specs.Parts.{Later, Advances, Steps}
 
@@ -20,11 +20,6 @@ pub record Running (bs input : List ℕ) (ended : Bool) (first : ℕ) (out : Lis
   pub filled : size ≤ length out
   pub lines : (later : List ℕ) → Later ended later
       → lines_from bs first (input ++ later) ≡ take size out ++ lines_from bs number (drop taken input ++ later)
-
-pub running_starts : (bs input : List ℕ) (ended : Bool) (first : ℕ) (out : List ℕ)
-    → Running bs input ended first out 0 0 first
-running_starts bs input ended first out =
-    record { within = omega arith; filled = omega arith; lines = λ later h. refl }
 
 -- a text put behind the first bytes of a buffer: r bytes are filled then
 pub record Appends (text old : List ℕ) (at : ℕ) (new : List ℕ) (r : ℕ) : Type 0 where
@@ -49,12 +44,12 @@ pub put_within : (text old : List ℕ) (at : ℕ) (new : List ℕ) (r : ℕ) →
 put_within text old at new r put h =
     omega (arith, put.size, ap length put.filled, length-take r new, length-take at old, length-append (take at old) text)
 
-module _ (bs input : List ℕ) (ended : Bool) (first : ℕ) (out : List ℕ) (taken size number : ℕ)
+module _ {bs input : List ℕ} {ended : Bool} {first : ℕ} {out : List ℕ} {taken size number : ℕ}
     (running : Running bs input ended first out taken size number) where
   -- no more is read after the last number
   pub running_done : 4294967295 < number
       → Advances bs input ended first out (record { taken = taken; size = size; number = number; pause = Done })
-  unfolding mask_lines
+  unfolding lines_from mask_lines
   running_done h =
       let none : 4294967296 - number ≡ 0 = omega arith in
       record {
@@ -64,31 +59,20 @@ module _ (bs input : List ℕ) (ended : Bool) (first : ℕ) (out : List ℕ) (ta
         why = tt;
       }
 
-  -- the buffer has no room for another line
-  pub running_full : length out - size < 92
-      → Advances bs input ended first out (record { taken = taken; size = size; number = number; pause = Full })
-  running_full h =
-      record {
-        lines = running.lines;
-        taken = running.within;
-        size = running.filled;
-        why = omega arith;
-      }
-
   -- one mask more, over the part that is not taken
-  module _ (got : Step) (steps : Steps bs (take (length input - taken) (drop taken input)) ended number got) where
-    pub running_within : (k : ℕ) (text : List ℕ) → got ≡ Passed k text → taken + k ≤ length input
-    running_within k text e =
+  module _ {got : Step} (steps : Steps bs (take (length input - taken) (drop taken input)) ended number got) where
+    pub running_within : {k : ℕ} {text : List ℕ} → got ≡ Passed k text → taken + k ≤ length input
+    running_within e =
         let (fits, _) = rw (e, part_rest taken input) at steps in
         omega (arith, running.within, fits, length-drop taken input)
 
     -- its line is put behind the others
-    pub running_more : (out' : List ℕ) (k : ℕ) (text : List ℕ) (s : ℕ) → got ≡ Passed k text → Appends text out size out' s
+    pub running_more : {out' : List ℕ} {k : ℕ} {text : List ℕ} {s : ℕ} → got ≡ Passed k text → Appends text out size out' s
         → Running bs input ended first out' (taken + k) s (number + 1)
-    running_more out' k text s e put =
+    running_more {out'} {k} {text} {s} e put =
         let (_, next) = rw (e, part_rest taken input) at steps in
         record {
-          within = running_within k text e;
+          within = running_within e;
           filled = put_within text out size out' s put running.filled;
           lines = λ later h.
               running.lines later h ∙ ap (λ l. take size out ++ l) (next later)
@@ -96,24 +80,13 @@ module _ (bs input : List ℕ) (ended : Bool) (first : ℕ) (out : List ℕ) (ta
               ∙ rw (put.filled, drop-drop k taken input);
         }
 
-    pub running_last : (out' text : List ℕ) (s : ℕ) → got ≡ Last text → Appends text out size out' s
+    pub running_last : {out' text : List ℕ} {s : ℕ} → got ≡ Last text → Appends text out size out' s
         → Advances bs input ended first out' (record { taken = taken; size = s; number = number; pause = Done })
-    running_last out' text s e put =
+    running_last {out'} {text} {s} e put =
         let ends = rw (e, part_rest taken input) at steps in
         record {
           lines = λ later h. running.lines later h ∙ ap (λ l. take size out ++ l) (ends later h) ∙ rw (put.filled, append-nil);
           taken = running.within;
           size = put_within text out size out' s put running.filled;
           why = tt;
-        }
-
-    pub running_wants : got ≡ Wanting
-        → Advances bs input ended first out (record { taken = taken; size = size; number = number; pause = More })
-    running_wants e =
-        let wants = rw (e, part_rest taken input) at steps in
-        record {
-          lines = running.lines;
-          taken = running.within;
-          size = running.filled;
-          why = wants;
         }

@@ -2,28 +2,27 @@
 -- Assumes nothing.
 use Prim.Native.Nat.{ℕ, suc, ◌+◌, ◌-◌, ◌≤◌}
 use mathlib.Core.Path.{◌≡◌, ◌∙◌}
-use mathlib.Core.Bool.{Bool}
-use mathlib.Core.Logic.{◌⊎◌, ⊎_elim}
 use mathlib.Core.List.{List, [], ◌++◌, append-nil}
 use native.Mathlib.Omega.{arith}
-use lib.ListN.{take, drop}
-use lib.Seq.{take-append-le, drop-append-le}
-use Rattle.std.specs.Prelude.{Some}
+use lib.ListN.{length, take, drop}
+use lib.Seq.{take-append-le, drop-append-le, length-take-le}
 use Rattle.model.specs.declared.Refusal.TheVariants.{Unframed}
-use Rattle.stream.specs.declared.Next.{Next}
 use Rattle.stream.specs.declared.Next.TheVariants.{Whole, Short, Cut, End}
 use Rattle.stream.specs.Stream.{next}
 use Rattle.stream.proofs.Following.{tell, whole_behind, short_behind}
 use Rattle.lines.specs.Line.{refused_line, mask_line}
 use Rattle.lines.specs.Output.{by_next, mask_lines, lines_from}
-use Rattle.lines.specs.Parts.{Later, Settles}
+
+-- a whole record lies within the input
+pub whole_fits : (input : List ℕ) (k : ℕ) → Whole k ≡ next input → k ≤ length input
+whole_fits input k e = let (_, _, _, fits) = tell input (Whole k) e in fits
 
 -- ---- one mask
 
 module _ (bs s : List ℕ) (n : ℕ) (below : n ≤ 4294967295) where
   -- one more mask may be read
   one_more : lines_from bs n s ≡ by_next (next s) (λ k. mask_line bs n (take k s) ++ lines_from bs (n + 1) (drop k s)) (refused_line n Unframed)
-  unfolding mask_lines
+  unfolding lines_from mask_lines
   one_more =
       let left : 4294967296 - n ≡ suc (4294967296 - (n + 1)) = omega arith in
       let plus : suc n ≡ n + 1 = omega arith in
@@ -34,7 +33,7 @@ module _ (bs rest : List ℕ) (n : ℕ) (below : n ≤ 4294967295) where
   pub whole_lines : (k : ℕ) → Whole k ≡ next rest → (later : List ℕ)
       → lines_from bs n (rest ++ later) ≡ mask_line bs n (take k rest) ++ lines_from bs (n + 1) (drop k rest ++ later)
   whole_lines k e later =
-      let (_, _, _, fits) = tell rest (Whole k) e in
+      let fits = whole_fits rest k e in
       one_more bs (rest ++ later) n below
       ∙ rw (← whole_behind rest later k e, take-append-le k rest later fits, drop-append-le k rest later fits)
 
@@ -49,16 +48,5 @@ module _ (bs rest : List ℕ) (n : ℕ) (below : n ≤ 4294967295) where
     pub end_lines : End ≡ next rest → lines_from bs n (rest ++ later) ≡ []
     end_lines e = rw (none, append-nil) (one_more bs rest n below ∙ rw (← e))
 
--- whatever stands next, where nothing that comes later changes it
-module _ (bs rest : List ℕ) (ended : Bool) (n : ℕ) (below : n ≤ 4294967295) (later : List ℕ) (nothing : Later ended later) where
-  pub broken_lines : (x : Next) → (x ≡ Short) ⊎ (x ≡ Cut) → Settles rest ended (Some x) → lines_from bs n (rest ++ later) ≡ refused_line n Unframed
-  broken_lines Short either (e, last) = short_lines bs rest n below e later
-  broken_lines Cut either (e, last) = cut_lines bs rest n below later (nothing (last tt)) e
-  broken_lines (Whole k) either settled = ⊎_elim (λ i. cc) (λ i. cc) either
-  broken_lines End either settled = ⊎_elim (λ i. cc) (λ i. cc) either
-
-  pub last_lines : (x : Next) → x ≡ End → Settles rest ended (Some x) → lines_from bs n (rest ++ later) ≡ []
-  last_lines End is (e, last) = end_lines bs rest n below later (nothing (last tt)) e
-  last_lines (Whole k) is settled = cc
-  last_lines Short is settled = cc
-  last_lines Cut is settled = cc
+-- by what stands next, what the lines are
+pub ruleset next_lines = (whole_fits, length-take-le, whole_lines, short_lines, cut_lines, end_lines)

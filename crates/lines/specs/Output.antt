@@ -22,7 +22,7 @@ mask_lines bs (suc left) n s =
     by_next (next s) (λ k. mask_line bs n (take k s) ++ mask_lines bs left (suc n) (drop k s)) (refused_line n Unframed)
 
 -- the lines from mask n on: after 4,294,967,295 masks it stops reading
-abbrev pub lines_from : List ℕ → ℕ → List ℕ → List ℕ
+unfoldable pub lines_from : List ℕ → ℕ → List ℕ → List ℕ
 lines_from bs n s = mask_lines bs (4294967296 - n) n s
 
 -- a refused book prints its line and ends it

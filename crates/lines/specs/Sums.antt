@@ -1,19 +1,13 @@
 -- What the functions that make a line ask of a record and tell of its bounds.
-use Rattle.std.specs.Prelude.{ℕ, ◌+◌, ◌*◌, ◌≤◌, ◌≡◌, ◌⊎◌, List, length}
+use Rattle.std.specs.Prelude.{ℕ, ◌≡◌, ◌⊎◌, List, length}
 use Rattle.model.specs.declared.Block.{Block}
 use Rattle.model.specs.Size.{lower_sum, uppers}
-use Rattle.records.specs.Mask.{count}
+use Rattle.records.specs.WellFormed.{MaskRecord}
 use Rattle.lines.specs.declared.answer.Sums.{Sums}
 
--- a record that holds k blocks, as it says
-pub record Blocks (rs : List ℕ) (k : ℕ) : Type 0 where
-  pub counted : k ≡ count rs
-  pub whole : 6 + 12 * k ≡ length rs
-  pub few : k ≤ 1024
-
--- what narrow wrote: nothing, or such a record
+-- what narrow wrote: nothing, or a record
 abbrev pub Recorded : List ℕ → Type 0
-Recorded rs = (length rs ≡ 0) ⊎ Blocks rs (count rs)
+Recorded rs = (length rs ≡ 0) ⊎ MaskRecord rs
 
 -- how many blocks, and both sums of the bounds
 pub record Sum (xs : List Block) (r : Sums) : Type 0 where

@@ -1,11 +1,11 @@
 // The line of a mask, from narrow's answer.
-ghost use Rattle.std.specs.Prelude.{◌≡◌, ◌≤◌, length};
-ghost use Rattle.records.specs.Mask.{count, mask_of};
+ghost use Rattle.std.specs.Prelude.{◌≡◌, ◌≤◌, length, take};
+ghost use Rattle.records.specs.Mask.{mask_of};
+ghost use Rattle.records.specs.WellFormed.{MaskRecord};
 ghost use Rattle.lines.specs.Line.{verdict_line, mask_line};
-ghost use Rattle.lines.specs.Sums.{Blocks, Recorded, Sum};
+ghost use Rattle.lines.specs.Sums.{Recorded, Sum};
 
 use crate::text::{Line, refused_line, verdict_line};
-use model::Verdict;
 use operations::Narrowed;
 
 // How many blocks a mask has, and the sums of their lower and of their upper bounds.
@@ -17,8 +17,9 @@ pub(crate) struct Sums {
 }
 
 // The sums of a mask's blocks.
+#[tactic(auto, using(records::proofs::Offsets::blocks_counted, crate::proofs::Summing::lowers_few), unfolding(model::specs::Size::lower_sum))]
 fn sums_of(written: &[u8]) -> Sums
-    requires { Blocks written.now (count written.now) }
+    requires { MaskRecord written.now }
     ensures { Sum (mask_of written.now) result }
 {
     let mut sums = Sums {
@@ -34,21 +35,22 @@ fn sums_of(written: &[u8]) -> Sums
     sums
 }
 
-// The line of a mask whose answer is a verdict and the record written, which is empty for none.
-#[tactic(auto, using(std::proofs::lemmas::Grind::common_steps, crate::proofs::Summing::record_line, crate::proofs::Summing::nothing_line, crate::proofs::Summing::recorded_some))]
-fn answer_line(number: u64, verdict: Verdict, written: &[u8]) -> Line
-    requires { Recorded written.now }
-    ensures { result ≡ verdict_line number verdict (mask_of written.now) }
+// The line of a mask from narrow's answer, whose bytes stand at the start of `answer`: a record, or nothing for none.
+#[tactic(auto, using(crate::proofs::Summing::nothing_line))]
+fn answer_line(number: u64, got: Narrowed, answer: &[u8]) -> Line
+    requires { (got.bytes ≤ length answer.now) × Recorded (take got.bytes answer.now) }
+    ensures { result ≡ verdict_line number got.verdict (mask_of (take got.bytes answer.now)) }
 {
+    let written = &answer[..got.bytes as usize];
     if written.is_empty() {
-        return verdict_line(number, verdict, 0, 0, 0);
+        return verdict_line(number, got.verdict, 0, 0, 0);
     }
     let Sums {
         blocks,
         lowers,
         uppers,
     } = sums_of(written);
-    verdict_line(number, verdict, blocks, lowers, uppers)
+    verdict_line(number, got.verdict, blocks, lowers, uppers)
 }
 
 // The line of a mask. `answer` is room for narrow's answer.
@@ -57,9 +59,7 @@ pub(crate) fn mask_line(book: &[u8], mask: &[u8], number: u64, answer: &mut [u8]
     ensures { result ≡ mask_line book.now number mask.now }
 {
     match operations::narrow(book, mask, answer) {
-        Ok(Narrowed { verdict, bytes }) => {
-            answer_line(number, verdict, &answer[..bytes as usize])
-        }
+        Ok(got) => answer_line(number, got, answer),
         Err(refusal) => refused_line(number, refusal),
     }
 }

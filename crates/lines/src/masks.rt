@@ -22,6 +22,7 @@ pub(crate) enum Step {
 }
 
 // What the mask that stands next in `rest` adds. `answer` is room for narrow's answer.
+#[tactic(auto, using(crate::proofs::Stepping::next_lines))]
 pub(crate) fn next_line(book: &[u8], rest: Part, number: u64, answer: &mut [u8]) -> Step
     requires { (number ≤ 4294967295) × (12294 ≤ length answer.old) }
     ensures { Steps book.now rest.entry.bytes.now rest.entry.ended number result }

@@ -113,7 +113,6 @@ fn numbered(number: u64, word: &[u8], a: u64, b: u64, c: u64) -> Line
 }
 
 // The line of a mask that is not refused: its number, the verdict, and three numbers of the answer.
-#[tactic(auto, using(crate::proofs::Appending::word_few))]
 pub(crate) fn verdict_line(
     number: u64,
     verdict: Verdict,

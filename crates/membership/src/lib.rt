@@ -23,7 +23,7 @@ pub fn some_strange(word: &[u8], letters: usize) -> bool
 
 // Whether the mask spells the word. No cut is tried after another: block by block, it marks the positions of the word up to
 // which the blocks so far spell it, in two arrays by turns.
-#[tactic(auto, using(crate::proofs::Comparing::marks_more, crate::proofs::Comparing::marks_end))]
+#[tactic(auto, using(std::proofs::lemmas::Grind::common_steps, crate::proofs::Comparing::marks_more, crate::proofs::Comparing::marks_end))]
 pub fn spells(mask: Mask, word: &[u8]) -> bool
     requires short { (length word.now ≤ 1024) × Letters 64 word.now }
     ensures { result ≡ spec.spells (blocks_of mask.entry) word.now }

@@ -1,8 +1,6 @@
 // The commands on a kind 1 record (a book).
-ghost use Rattle.record_cases.specs.Holds.{HoldsBook};
-
 use case_text::show;
-use records::Book;
+use records::Table;
 use std::io;
 use std::io::Write;
 
@@ -13,7 +11,7 @@ pub fn book(out: &mut impl Write, bytes: &[u8]) -> io::Result<()> {
         Ok(book) => write!(
             out,
             "book {} {} {} {}",
-            book.states, book.letters, book.start, book.accepting
+            book.table.states, book.table.letters, book.start, book.accepting
         ),
     }
 }
@@ -22,18 +20,14 @@ pub fn book(out: &mut impl Write, bytes: &[u8]) -> io::Result<()> {
 pub fn moves(out: &mut impl Write, bytes: &[u8]) -> io::Result<()> {
     match records::read_book(bytes) {
         Err(refusal) => show::refused(out, refusal.number()),
-        Ok(book) => next_states(out, bytes, book),
+        Ok(book) => next_states(out, book.table),
     }
 }
 
 // Writes the next states, state by state and letter by letter.
-fn next_states(out: &mut impl Write, bytes: &[u8], book: Book) -> io::Result<()>
-    requires { HoldsBook bytes.now book }
-{
-    let moves = &bytes[15..];
-    for i in 0..moves.len() {
-        let (state, letter) = (i / book.letters, i % book.letters);
-        let next = records::next_state(book.states, book.letters, moves, state, letter);
+fn next_states(out: &mut impl Write, table: Table) -> io::Result<()> {
+    for i in 0..table.states * table.letters {
+        let next = table.next(i / table.letters, i % table.letters);
         show::blank_before(out, i)?;
         write!(out, "{next}")?;
     }

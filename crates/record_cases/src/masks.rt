@@ -1,28 +1,24 @@
 // The commands on a kind 2 record (a mask).
-ghost use Rattle.records.specs.WellFormed.{MaskRecord};
-ghost use Rattle.record_cases.specs.Holds.{Holds};
+ghost use Rattle.std.specs.Prelude.{◌≤◌, length};
+ghost use Rattle.records.specs.Read.{blocks_of};
 
 use case_text::buffer::untouched;
 use case_text::show;
 use model::Block;
+use records::Mask;
 use std::io;
 use std::io::Write;
 
 // Writes the numbers of a mask, its blocks where they are few, and whether it comes back as it was; or its refusal.
-#[tactic(auto, using(crate::proofs::Accepted::mask_lent))]
 pub fn mask(out: &mut impl Write, bytes: &[u8]) -> io::Result<()> {
     match records::read_mask(bytes) {
         Err(refusal) => show::refused(out, refusal.number()),
         Ok(mask) => {
-            write!(out, "mask {} {}", mask.blocks, mask.uppers)?;
-            if mask.blocks <= 8 {
-                blocks(out, bytes)?;
+            write!(out, "mask {} {}", mask.len(), mask.totals.uppers)?;
+            if mask.len() <= 8 {
+                blocks(out, mask)?;
             }
-            let word = if comes_back(bytes, mask.blocks) {
-                "same"
-            } else {
-                "differs"
-            };
+            let word = if comes_back(mask) { "same" } else { "differs" };
             write!(out, " {word}")
         }
     }
@@ -36,17 +32,15 @@ pub fn letters(out: &mut impl Write, bytes: &[u8]) -> io::Result<()> {
     match records::read_mask(record) {
         Err(refusal) => show::refused(out, refusal.number()),
         Ok(mask) => {
-            let foreign = records::some_foreign(mask, *least as usize);
+            let foreign = records::some_foreign(mask.totals, *least as usize);
             out.write_all(if foreign { b"9" } else { b"0" })
         }
     }
 }
 
 // Writes each block.
-fn blocks(out: &mut impl Write, bytes: &[u8]) -> io::Result<()>
-    requires { MaskRecord bytes.now }
-{
-    for item in records::blocks(bytes) {
+fn blocks(out: &mut impl Write, mask: Mask) -> io::Result<()> {
+    for item in mask.blocks() {
         block(out, item)?;
     }
     Ok(())
@@ -58,14 +52,14 @@ fn block(out: &mut impl Write, block: Block) -> io::Result<()> {
 }
 
 // Whether the blocks of a mask, read and written again, give the mask's bytes and leave what lies behind them.
-fn comes_back(bytes: &[u8], blocks: usize) -> bool
-    requires { Holds bytes.now blocks }
+fn comes_back(mask: Mask) -> bool
+    requires { length (blocks_of mask) ≤ 1024 }
 {
     let mut room = [Block::EMPTY; 1024];
-    let blocks = &mut room[..blocks];
-    records::read_blocks(bytes, blocks);
+    let blocks = &mut room[..mask.len()];
+    mask.copy_to(blocks);
     let mut out = [0xEEu8; 12300];
     let size = records::write_mask(blocks, &mut out);
     let (record, behind) = out.split_at(size);
-    bytes == record && untouched(behind)
+    mask.bytes == record && untouched(behind)
 }

@@ -1,6 +1,13 @@
+use Rattle.std.proofs.Common.{◌≡◌, ◌+◌, length}
+use Rattle.model.specs.Size.{lower_sum, uppers}
 use Rattle.records.specs.Mask.{mask_of}
-use Rattle.lines.proofs.Summing.{Summing}
 use Rattle.lines.proofs.answer.sums_of.Given as goal
 
 abbrev pub invariant-loop-block : goal.invariant-loop-block
-invariant-loop-block l = Summing (mask_of l.written) l.block-iterator l.sums
+invariant-loop-block l =
+    let xs = mask_of l.written in
+    record {
+      blocks : l.sums.blocks + length l.block-iterator ≡ length xs;
+      lowers : l.sums.lowers + lower_sum l.block-iterator ≡ lower_sum xs;
+      uppers : l.sums.uppers + uppers l.block-iterator ≡ uppers xs;
+    }

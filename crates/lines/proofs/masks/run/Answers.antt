@@ -4,16 +4,16 @@ use Rattle.lines.proofs.Running.{put_behind, running_done, running_more, running
 use Rattle.lines.proofs.masks.run.Goals as goal
 
 pub returns-then-progress-gt-LAST : goal.returns-then-progress-gt-LAST
-returns-then-progress-gt-LAST c = running_done _ _ _ _ _ _ _ _ c.loop-out.invariant.running (omega arith)
+returns-then-progress-gt-LAST c = running_done c.loop-out.invariant.running (omega arith)
 
 pub loop-out-preserved : goal.loop-out-preserved
 loop-out-preserved c =
     let running = c.loop-out.invariant.running in
     let put = put_behind _ _ _ _ c.loop-out.progress.size _ running.filled c.copy_to.ensures in
-    record { running = running_more _ _ _ _ _ _ _ _ running _ c.next_line.ensures _ _ _ _ c.in-Passed.is put; full = c.loop-out.invariant.full }
+    record { running = running_more running c.next_line.ensures c.in-Passed.is put; full = c.loop-out.invariant.full }
 
 pub returns-in-Last : goal.returns-in-Last
 returns-in-Last c =
     let running = c.loop-out.invariant.running in
     let put = put_behind _ _ _ _ c.loop-out.progress.size _ running.filled c.copy_to-in-Last.ensures in
-    running_last _ _ _ _ _ _ _ _ running _ c.next_line.ensures _ _ _ c.in-Last.is put
+    running_last running c.next_line.ensures c.in-Last.is put

@@ -1,2 +1,0 @@
--- Laws that several functions' proofs cite; the functions' own proofs stand in folders of their names.
-pub mod Accepted
