@@ -1,6 +1,6 @@
 -- A mask that is lent as a list of blocks: its own checks, and what narrow promises of it.
 -- Assumes nothing.
-use Rattle.std.proofs.Common.{◌≡◌, ℕ, ◌+◌, ◌^◌, ◌≤◌, ◌<◌, Some, Result, Ok, Err, List, [], ◌∷◌, ◌++◌, length, take, drop, ap, refl, ◌∙◌, arith, length-append, length-drop, lt-ltb, le-ltb}
+use Rattle.std.proofs.Common.{◌≡◌, ℕ, false, ◌+◌, ◌^◌, ◌≤◌, ◌<◌, Some, Result, Ok, Err, List, [], ◌∷◌, ◌++◌, length, take, drop, ap, refl, ◌∙◌, arith, length-append, length-drop, lt-ltb, le-ltb}
 use Rattle.std.proofs.lemmas.Nat.{le_or_l, le_or_r}
 use Rattle.model.specs.declared.Block.{Block}
 use Rattle.model.specs.declared.Refusal.{Refusal}
@@ -11,7 +11,7 @@ use Rattle.model.specs.DashedString.{Each}
 use Rattle.model.specs.Size.{Fits, uppers}
 use Rattle.records.specs.declared.Totals.{Totals}
 use Rattle.records.specs.declared.book.Book.{Book}
-use Rattle.records.specs.Mask.{blocks_refusal, totals_of, with_letters, read_blocks}
+use Rattle.records.specs.Mask.{blocks_refusal, totals_of, with_letters, read_blocks, foreign}
 use Rattle.records.specs.Read.{automaton, ReadsBook}
 use Rattle.records.proofs.Answers.{unless_ok, unless_err}
 use Rattle.records.proofs.Checks.{on, off, peel}
@@ -55,11 +55,11 @@ module _ (bs : List ℕ) (xs : List Block) (few : length xs ≤ 1024) (b : Book)
 
     -- nothing refuses it: it is ready for the passes
     module _ (small : t.used < 2 ^ 64) (own : refuse (some_from t.used b.table.letters) Foreign accepted ≡ accepted) where
-      pub list_ready : Fits b.table.letters xs
+      pub list_ready : (blocks_refusal xs ≡ accepted) × (t ≡ totals_of xs) × (foreign b.table.letters xs ≡ false) × Fits b.table.letters xs
       list_ready =
           let same = ap (λ (x : Totals). x.used) passed.1 in
           let letters = rw (same, used_foreign) at (peel _ _ _ own).0 in
-          blocks_fit b.table.letters xs (wide_sets 0 xs (rw same at small)).1 few passed.0 letters
+          (passed.0, passed.1, letters, blocks_fit b.table.letters xs (wide_sets 0 xs (rw same at small)).1 few passed.0 letters)
 
       -- it is copied into the first entries of a room
       module _ (copy rest : List Block) (copied : copy ≡ xs) where
@@ -68,7 +68,7 @@ module _ (bs : List ℕ) (xs : List Block) (few : length xs ≤ 1024) (b : Book)
 
         -- these are ready for the passes too
         pub copy_ready : Fits b.table.letters (take (length xs) (copy ++ rest))
-        copy_ready = rw first_blocks list_ready
+        copy_ready = rw first_blocks list_ready.3
 
         -- and what narrow promises of these it promises of the list
         pub copy_promised : (old new : List ℕ) (a : Result Narrowed Refusal)
@@ -80,7 +80,7 @@ module _ (bs : List ℕ) (xs : List Block) (few : length xs ≤ 1024) (b : Book)
           → let ys = copy ++ drop (length xs) room in
           (uppers (take (length xs) ys) + length xs ≤ length ys) × (uppers (take (length xs) ys) ≤ length sets)
       copy_lent copy room copied sets h l =
-          let sum = list_ready.room.sum in
+          let sum = list_ready.3.room.sum in
           let rest = drop (length xs) room in
           rw (first_blocks copy rest copied)
           (omega (arith, few, sum, h, ap length copied, length-append copy rest, length-drop (length xs) room), omega (arith, sum, l))
