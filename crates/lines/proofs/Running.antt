@@ -7,9 +7,9 @@ use mathlib.Core.List.{List, ◌++◌, append-nil, append_assoc}
 use native.Mathlib.Omega.{arith}
 use lib.ListN.{length, take, drop, length-append, length-take, length-drop}
 use lib.Seq.{drop-drop, length-take-le, take-append-add, take-append-le}
+use Rattle.std.specs.Prelude.{Some}
 use Rattle.records.proofs.Over.{part_rest}
 use Rattle.lines.specs.declared.Pause.TheVariants.{Done}
-use Rattle.lines.specs.declared.masks.Step.{Step}
 use Rattle.lines.specs.declared.masks.Step.TheVariants.{Passed, Last}
 use Rattle.lines.specs.Output.{mask_lines, lines_from}
 use Rattle.lines.specs.Parts.{Later, Advances, Steps}
@@ -59,34 +59,30 @@ module _ {bs input : List ℕ} {ended : Bool} {first : ℕ} {out : List ℕ} {ta
         why = tt;
       }
 
-  -- one mask more, over the part that is not taken
-  module _ {got : Step} (steps : Steps bs (take (length input - taken) (drop taken input)) ended number got) where
-    pub running_within : {k : ℕ} {text : List ℕ} → got ≡ Passed k text → taken + k ≤ length input
-    running_within e =
-        let (fits, _) = rw (e, part_rest taken input) at steps in
-        omega (arith, running.within, fits, length-drop taken input)
+  -- one mask more, over the part that is not taken: its line is put behind the others
+  pub running_more : {out' text : List ℕ} {k s : ℕ} → Steps bs (take (length input - taken) (drop taken input)) ended number (Some (Passed k text))
+      → Appends text out size out' s
+      → Running bs input ended first out' (taken + k) s (number + 1)
+  running_more {out'} {text} {k} {s} steps put =
+      let (fits, next) = rw (part_rest taken input) at steps in
+      record {
+        within = omega (arith, running.within, fits, length-drop taken input);
+        filled = put_within text out size out' s put running.filled;
+        lines = λ later h.
+            running.lines later h ∙ ap (λ l. take size out ++ l) (next later)
+            ∙ sym (append_assoc (take size out) text _)
+            ∙ rw (put.filled, drop-drop k taken input);
+      }
 
-    -- its line is put behind the others
-    pub running_more : {out' : List ℕ} {k : ℕ} {text : List ℕ} {s : ℕ} → got ≡ Passed k text → Appends text out size out' s
-        → Running bs input ended first out' (taken + k) s (number + 1)
-    running_more {out'} {k} {text} {s} e put =
-        let (_, next) = rw (e, part_rest taken input) at steps in
-        record {
-          within = running_within e;
-          filled = put_within text out size out' s put running.filled;
-          lines = λ later h.
-              running.lines later h ∙ ap (λ l. take size out ++ l) (next later)
-              ∙ sym (append_assoc (take size out) text _)
-              ∙ rw (put.filled, drop-drop k taken input);
-        }
-
-    pub running_last : {out' text : List ℕ} {s : ℕ} → got ≡ Last text → Appends text out size out' s
-        → Advances bs input ended first out' (record { taken = taken; size = s; number = number; pause = Done })
-    running_last {out'} {text} {s} e put =
-        let ends = rw (e, part_rest taken input) at steps in
-        record {
-          lines = λ later h. running.lines later h ∙ ap (λ l. take size out ++ l) (ends later h) ∙ rw (put.filled, append-nil);
-          taken = running.within;
-          size = put_within text out size out' s put running.filled;
-          why = tt;
-        }
+  -- the last line
+  pub running_last : {out' text : List ℕ} {s : ℕ} → Steps bs (take (length input - taken) (drop taken input)) ended number (Some (Last text))
+      → Appends text out size out' s
+      → Advances bs input ended first out' (record { taken = taken; size = s; number = number; pause = Done })
+  running_last {out'} {text} {s} steps put =
+      let ends = rw (part_rest taken input) at steps in
+      record {
+        lines = λ later h. running.lines later h ∙ ap (λ l. take size out ++ l) (ends later h) ∙ rw (put.filled, append-nil);
+        taken = running.within;
+        size = put_within text out size out' s put running.filled;
+        why = tt;
+      }

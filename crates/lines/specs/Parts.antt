@@ -7,7 +7,7 @@ use Rattle.lines.specs.declared.Pause.{Pause}
 use Rattle.lines.specs.declared.Pause.TheVariants.{Full, More, Done}
 use Rattle.lines.specs.declared.Progress.{Progress}
 use Rattle.lines.specs.declared.masks.Step.{Step}
-use Rattle.lines.specs.declared.masks.Step.TheVariants.{Passed, Last, Wanting}
+use Rattle.lines.specs.declared.masks.Step.TheVariants.{Passed, Last}
 use Rattle.lines.specs.Line.{book_line}
 use Rattle.lines.specs.Output.{lines_from, output}
 
@@ -45,12 +45,12 @@ pub record Advances (bs input : List ℕ) (ended : Bool) (n : ℕ) (new : List �
   pub size : r.size ≤ length new
   pub why : Because r.pause r.size (length new) ended (drop r.taken input)
 
--- what one mask adds to the text, by its line
-abbrev pub Steps : List ℕ → List ℕ → Bool → ℕ → Step → Type 0
-Steps bs rest ended n (Passed k text) =
+-- what one mask adds to the text, by its line; or more is wanted
+abbrev pub Steps : List ℕ → List ℕ → Bool → ℕ → Option Step → Type 0
+Steps bs rest ended n (Some (Passed k text)) =
     (k ≤ length rest) × ((later : List ℕ) → lines_from bs n (rest ++ later) ≡ text ++ lines_from bs (n + 1) (drop k rest ++ later))
-Steps bs rest ended n (Last text) = (later : List ℕ) → Later ended later → lines_from bs n (rest ++ later) ≡ text
-Steps bs rest ended n Wanting = Wants ended rest
+Steps bs rest ended n (Some (Last text)) = (later : List ℕ) → Later ended later → lines_from bs n (rest ++ later) ≡ text
+Steps bs rest ended n None = Wants ended rest
 
 -- what an input begins with: an accepted book of so many bytes, or more is wanted; or a refused book, whose line is all
 abbrev pub Opens : List ℕ → Bool → Result (Option ℕ) Refusal → Type 0

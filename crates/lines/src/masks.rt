@@ -12,32 +12,27 @@ use stream::Next;
 // The last mask that is read.
 const LAST: u64 = u32::MAX as u64;
 
-// What one mask adds: its line, the mask being of so many bytes; the last line, behind which nothing is printed; or more input
-// is wanted.
+// What one mask adds: its line, the mask being of so many bytes; or the last line, behind which nothing is printed.
 #[derive(Drop)]
 pub(crate) enum Step {
     Passed { taken: usize, line: Line },
     Last(Line),
-    Wanting,
 }
 
-// What the mask that stands next in `rest` adds. `answer` is room for narrow's answer.
+// What the mask that stands next in `rest` adds; `None` where more input is wanted. `answer` is room for narrow's answer.
 #[tactic(auto, using(crate::proofs::Stepping::next_lines))]
-pub(crate) fn next_line(book: &[u8], rest: Part, number: u64, answer: &mut [u8]) -> Step
+pub(crate) fn next_line(book: &[u8], rest: Part, number: u64, answer: &mut [u8]) -> Option<Step>
     requires { (number ≤ 4294967295) × (12294 ≤ length answer.old) }
     ensures { Steps book.now rest.entry.bytes.now rest.entry.ended number result }
 {
-    let Some(next) = settled(rest) else {
-        return Step::Wanting;
-    };
-    match next {
+    Some(match settled(rest)? {
         Next::Whole(taken) => Step::Passed {
             taken,
             line: mask_line(book, &rest.bytes[..taken], number, answer),
         },
         Next::Short | Next::Cut => Step::Last(refused_line(number, Refusal::Unframed)),
         Next::End => Step::Last(Line::new()),
-    }
+    })
 }
 
 // Puts the lines of the masks of `input`, from number `first` on, at the start of `out`, as far as they go: up to a buffer
@@ -62,17 +57,17 @@ pub fn run(book: &[u8], input: Part, first: u64, answer: &mut [u8], out: &mut [u
             ..input
         };
         match next_line(book, rest, progress.number, answer) {
-            Step::Passed { taken, line } => {
+            Some(Step::Passed { taken, line }) => {
                 progress.taken += taken;
                 progress.size += line.copy_to(&mut out[progress.size..]);
                 progress.number += 1;
             }
-            Step::Last(line) => {
+            Some(Step::Last(line)) => {
                 progress.size += line.copy_to(&mut out[progress.size..]);
                 progress.pause = Pause::Done;
                 return progress;
             }
-            Step::Wanting => {
+            None => {
                 progress.pause = Pause::More;
                 return progress;
             }

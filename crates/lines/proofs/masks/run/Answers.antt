@@ -10,10 +10,10 @@ pub loop-out-preserved : goal.loop-out-preserved
 loop-out-preserved c =
     let running = c.loop-out.invariant.running in
     let put = put_behind _ _ _ _ c.loop-out.progress.size _ running.filled c.copy_to.ensures in
-    record { running = running_more running c.next_line.ensures c.in-Passed.is put; full = c.loop-out.invariant.full }
+    record { running = running_more running (rw (c.in-Some-Passed.is, c.in-Some-Passed.field-0-is) at c.next_line.ensures) put; full = c.loop-out.invariant.full }
 
-pub returns-in-Last : goal.returns-in-Last
-returns-in-Last c =
+pub returns-in-Some-Last : goal.returns-in-Some-Last
+returns-in-Some-Last c =
     let running = c.loop-out.invariant.running in
-    let put = put_behind _ _ _ _ c.loop-out.progress.size _ running.filled c.copy_to-in-Last.ensures in
-    running_last running c.next_line.ensures c.in-Last.is put
+    let put = put_behind _ _ _ _ c.loop-out.progress.size _ running.filled c.copy_to-in-Some-Last.ensures in
+    running_last running (rw (c.in-Some-Last.is, c.in-Some-Last.field-0-is) at c.next_line.ensures) put
