@@ -9,7 +9,7 @@ use crate::text::{Line, refused_line, verdict_line};
 use operations::Narrowed;
 
 // How many blocks a mask has, and the sums of their lower and of their upper bounds.
-#[derive(Clone, Copy)]
+#[derive(Clone, Copy, Default)]
 pub(crate) struct Sums {
     pub blocks: u64,
     pub lowers: u64,
@@ -22,11 +22,7 @@ fn sums_of(written: &[u8]) -> Sums
     requires { MaskRecord written.now }
     ensures { Sum (mask_of written.now) result }
 {
-    let mut sums = Sums {
-        blocks: 0,
-        lowers: 0,
-        uppers: 0,
-    };
+    let mut sums = Sums::default();
     for block in records::blocks(written) {
         sums.blocks += 1;
         sums.lowers += block.lower as u64;
@@ -42,15 +38,12 @@ fn answer_line(number: u64, got: Narrowed, answer: &[u8]) -> Line
     ensures { result ≡ verdict_line number got.verdict (mask_of (take got.bytes answer.now)) }
 {
     let written = &answer[..got.bytes as usize];
-    if written.is_empty() {
-        return verdict_line(number, got.verdict, 0, 0, 0);
-    }
-    let Sums {
-        blocks,
-        lowers,
-        uppers,
-    } = sums_of(written);
-    verdict_line(number, got.verdict, blocks, lowers, uppers)
+    let sums = if written.is_empty() {
+        Sums::default()
+    } else {
+        sums_of(written)
+    };
+    verdict_line(number, got.verdict, sums)
 }
 
 // The line of a mask. `answer` is room for narrow's answer.

@@ -1,9 +1,10 @@
 // The text of a line, in a buffer of its own. No line is longer than 92 bytes.
-ghost use Rattle.std.specs.Prelude.{◌≡◌, ◌++◌, ◌+◌, ◌≤◌, [], length, take};
+ghost use Rattle.std.specs.Prelude.{◌≡◌, ◌++◌, ◌+◌, ◌≤◌, [], length, take, slice_index};
 ghost use Rattle.lines.specs.Text.{decimal};
 ghost use Rattle.model.specs.Verdict.{word};
-ghost use Rattle.lines.specs.Line.{spaced, numbers, line, refused_line, book_line};
+ghost use Rattle.lines.specs.Line.{spaced, line, refused_line, book_line};
 
+use crate::answer::Sums;
 use model::{Refusal, Verdict};
 use std::marker::Model;
 
@@ -84,52 +85,42 @@ impl Line {
         self.put(b" ");
         self.put_decimal(n);
     }
-
-    // Puts three numbers, a blank before each, and the line's end.
-    #[tactic(auto, using(crate::proofs::Appending::spaced_few))]
-    fn put_numbers(&mut self, a: u64, b: u64, c: u64)
-        requires { length self.old + 64 ≤ 92 }
-        ensures { self.new ≡ self.old ++ numbers a b c }
-    {
-        self.put_next(a);
-        self.put_next(b);
-        self.put_next(c);
-        self.put(b"\n");
-    }
 }
 
 // A mask's line: its number, a word and three numbers.
-#[tactic(auto, using(std::proofs::lemmas::Grind::common_steps, crate::proofs::Appending::decimal_few))]
-fn numbered(number: u64, word: &[u8], a: u64, b: u64, c: u64) -> Line
+#[tactic(auto, using(std::proofs::lemmas::Grind::common_steps, crate::proofs::Appending::decimal_few, crate::proofs::Appending::spaced_few))]
+fn numbered(number: u64, word: &[u8], numbers: [u64; 3]) -> Line
     requires { length word.now ≤ 7 }
-    ensures { result ≡ line number word.now a b c }
+    ensures { result ≡ line number word.now (slice_index numbers 0) (slice_index numbers 1) (slice_index numbers 2) }
 {
+    let [a, b, c] = numbers;
     let mut line = Line::new();
     line.put_decimal(number);
     line.put(b" ");
     line.put(word);
-    line.put_numbers(a, b, c);
+    line.put_next(a);
+    line.put_next(b);
+    line.put_next(c);
+    line.put(b"\n");
     line
 }
 
 // The line of a mask that is not refused: its number, the verdict, and three numbers of the answer.
-pub(crate) fn verdict_line(
-    number: u64,
-    verdict: Verdict,
-    blocks: u64,
-    lowers: u64,
-    uppers: u64,
-) -> Line
-    ensures { result ≡ line number (word verdict) blocks lowers uppers }
+pub(crate) fn verdict_line(number: u64, verdict: Verdict, sums: Sums) -> Line
+    ensures { result ≡ line number (word verdict) sums.blocks sums.lowers sums.uppers }
 {
-    numbered(number, verdict.word(), blocks, lowers, uppers)
+    numbered(
+        number,
+        verdict.word(),
+        [sums.blocks, sums.lowers, sums.uppers],
+    )
 }
 
 // The line of a refused mask.
 pub(crate) fn refused_line(number: u64, refusal: Refusal) -> Line
     ensures { result ≡ refused_line number refusal }
 {
-    numbered(number, b"refused", refusal.number() as u64, 0, 0)
+    numbered(number, b"refused", [refusal.number() as u64, 0, 0])
 }
 
 // The line of a refused book.
