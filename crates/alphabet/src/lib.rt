@@ -13,7 +13,7 @@ pub fn sign_of(letter: u8) -> u8
     ensures { result ≡ sign_of letter }
 {
     if letter < 64 {
-        SIGNS[letter as usize]
+        SIGNS[usize::from(letter)]
     } else {
         0
     }

@@ -34,7 +34,7 @@ fn read_token(token: &[u8], last: Option<u8>) -> Option<(u8, u32)>
 
 // The byte that two hex digits say, of either case.
 fn byte(high: u8, low: u8) -> Option<u8> {
-    let high = (high as char).to_digit(16)?;
-    let low = (low as char).to_digit(16)?;
+    let high = char::from(high).to_digit(16)?;
+    let low = char::from(low).to_digit(16)?;
     Some((high * 16 + low) as u8)
 }

@@ -25,8 +25,8 @@ fn sums_of(written: &[u8]) -> Sums
     let mut sums = Sums::default();
     for block in records::blocks(written) {
         sums.blocks += 1;
-        sums.lowers += block.lower as u64;
-        sums.uppers += block.upper as u64;
+        sums.lowers += u64::from(block.lower);
+        sums.uppers += u64::from(block.upper);
     }
     sums
 }

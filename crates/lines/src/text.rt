@@ -120,7 +120,7 @@ pub(crate) fn verdict_line(number: u64, verdict: Verdict, sums: Sums) -> Line
 pub(crate) fn refused_line(number: u64, refusal: Refusal) -> Line
     ensures { result ≡ refused_line number refusal }
 {
-    numbered(number, b"refused", [refusal.number() as u64, 0, 0])
+    numbered(number, b"refused", [u64::from(refusal.number()), 0, 0])
 }
 
 // The line of a refused book.
@@ -130,7 +130,7 @@ pub fn book_line(refusal: Refusal) -> Line
 {
     let mut line = Line::new();
     line.put(b"book refused");
-    line.put_next(refusal.number() as u64);
+    line.put_next(u64::from(refusal.number()));
     line.put(b"\n");
     line
 }

@@ -32,7 +32,7 @@ pub fn letters(out: &mut impl Write, bytes: &[u8]) -> io::Result<()> {
     match records::read_mask(record) {
         Err(refusal) => show::refused(out, refusal.number()),
         Ok(mask) => {
-            let foreign = records::some_foreign(mask.totals, *least as usize);
+            let foreign = records::some_foreign(mask.totals, usize::from(*least));
             out.write_all(if foreign { b"9" } else { b"0" })
         }
     }
