@@ -5,11 +5,11 @@ ghost use Rattle.std.specs.Io.KnownBytes.{Appends};
 use std::io;
 use std::io::Write;
 
-// Writes the blank between entry `i` and the one before it.
-pub fn blank_before<W: Write>(out: &mut W, i: usize) -> io::Result<()>
-    ensures { OnOk result (Appends (W.contents out.old) (W.contents out.new) (if nat_lt 0 i then codes " " else [])) }
+// Writes the text between entry `i` and the one before it; nothing before the first, which is entry 0.
+pub fn between<W: Write>(out: &mut W, i: usize, text: &[u8]) -> io::Result<()>
+    ensures { OnOk result (Appends (W.contents out.old) (W.contents out.new) (if nat_lt 0 i then text.now else [])) }
 {
-    if 0 < i { out.write_all(b" ") } else { Ok(()) }
+    if 0 < i { out.write_all(text) } else { Ok(()) }
 }
 
 // Writes a refusal.

@@ -28,7 +28,7 @@ pub fn moves(out: &mut impl Write, bytes: &[u8]) -> io::Result<()> {
 fn next_states(out: &mut impl Write, table: Table) -> io::Result<()> {
     for i in 0..table.states * table.letters {
         let next = table.next(i / table.letters, i % table.letters);
-        show::blank_before(out, i)?;
+        show::between(out, i, b" ")?;
         write!(out, "{next}")?;
     }
     Ok(())

@@ -22,7 +22,7 @@ fn sign(out: &mut impl Write, number: u8) -> io::Result<()> {
 // Writes the letter whose sign each byte is, `none` for a byte that is no sign.
 pub fn numbers(out: &mut impl Write, bytes: &[u8]) -> io::Result<()> {
     for (i, byte) in bytes.iter().enumerate() {
-        show::blank_before(out, i)?;
+        show::between(out, i, b" ")?;
         match alphabet::letter_of(*byte) {
             Some(letter) => write!(out, "{letter}")?,
             None => out.write_all(b"none")?,

@@ -1,4 +1,5 @@
 // Masks in 01's notation: `{0,1} 1-1, {2} 1-1`, letters as numbers.
+use case_text::show;
 use model::Block;
 use records::Mask;
 use std::io;
@@ -14,12 +15,11 @@ pub fn mask(out: &mut impl Write, bytes: &[u8]) -> io::Result<()> {
 }
 
 // Writes each block.
+#[tactic(auto, using(records::proofs::Offsets::blocks_counted))]
 fn blocks(out: &mut impl Write, mask: Mask) -> io::Result<()> {
-    let mut between: &[u8] = b"";
-    for item in mask.blocks() {
-        out.write_all(between)?;
+    for (i, item) in mask.blocks().enumerate() {
+        show::between(out, i, b", ")?;
         block(out, item)?;
-        between = b", ";
     }
     Ok(())
 }
@@ -32,12 +32,11 @@ pub fn block(out: &mut impl Write, block: Block) -> io::Result<()> {
 }
 
 // Writes the letters of a set.
+#[tactic(auto, using(crate::proofs::Letters::few_listed))]
 fn letters(out: &mut impl Write, set: u64) -> io::Result<()> {
-    let mut between: &[u8] = b"";
-    for letter in bitset::members(set) {
-        out.write_all(between)?;
+    for (i, letter) in bitset::members(set).enumerate() {
+        show::between(out, i, b",")?;
         write!(out, "{letter}")?;
-        between = b",";
     }
     Ok(())
 }
