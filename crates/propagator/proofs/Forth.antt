@@ -33,11 +33,6 @@ pub record Filling (t : Table) (S Q : ℕ) (sets : List ℕ) (P j : ℕ) : Type 
   pub last : P ≡ exactly t S Q j
   pub places : take j sets ≡ places_of t S Q j
 
--- no set is stored yet
-pub filling_starts : (t : Table) (S Q : ℕ) (sets : List ℕ) → Filling t S Q sets Q 0
-unfolding exactly places_of
-filling_starts t S Q sets = record { last = refl; places = refl }
-
 module _ (t : Table) (S Q : ℕ) (sets : List ℕ) (P j : ℕ) (filling : Filling t S Q sets P j) where
   -- one place more
   pub filling_more : (r : ℕ) → j < length sets → r ≡ after t S P → Filling t S Q (set sets j r) r (j + 1)
@@ -89,10 +84,6 @@ pub record Passing (t : Table) (Q : ℕ) (xs : List Block) (sets : List ℕ) (st
   pub counted : entries + (lower_sum rest + length rest) ≡ lower_sum xs + length xs
   pub sum : at + stored_sum rest ≡ stored_sum xs
   pub made : stored t Q xs ≡ take at sets ++ stored t states rest
-
--- none is
-pub passing_starts : (t : Table) (Q : ℕ) (xs : List Block) (sets : List ℕ) → Passing t Q xs sets Q 0 0 xs
-passing_starts t Q xs sets = record { here = refl; counted = omega arith; sum = omega arith; made = refl }
 
 module _ (t : Table) (Q : ℕ) (xs : List Block) (sets : List ℕ) (states entries at i : ℕ) (passing : Passing t Q xs sets states entries at (drop i xs)) where
   -- all are passed

@@ -1,10 +1,10 @@
 -- Step 5's loop over the states before one place: the letters that stay in it, and the states kept before it.
 -- Assumes nothing.
 use Prim.Native.Nat.{ℕ, ◌^◌, ◌<◌}
-use mathlib.Core.Path.{◌≡◌, sym, ap, ◌∙◌}
+use mathlib.Core.Path.{◌≡◌, sym, ◌∙◌}
 use mathlib.Core.Logic.{◌⊎◌, inl, inr, ⊎_elim}
 use mathlib.Core.Bool.{true, false}
-use mathlib.Core.List.{[], ◌∷◌}
+use mathlib.Core.List.{◌∷◌}
 use native.Mathlib.Omega.{arith}
 use lib.Bits.{or_lt}
 use Rattle.std.specs.Prelude.{filter, fold}
@@ -16,7 +16,7 @@ use Rattle.model.proofs.Steps.{between_bytes, in_between}
 use Rattle.bitset.specs.Difference.{difference}
 use Rattle.bitset.specs.Listed.{listed}
 use Rattle.bitset.proofs.Laws.{same_test, same_members, trailing_first, in_difference}
-use Rattle.bitset.proofs.Listed.{joined, union_listed, members_listed, joined_none, joined_next}
+use Rattle.bitset.proofs.Listed.{joined, union_listed, members_listed, joined_next}
 use Rattle.propagator.specs.Moves.{leads}
 use Rattle.propagator.proofs.Gathering.{inside_or_not}
 use Rattle.propagator.proofs.Leading.{Leading, leads_exact, leading_before}
@@ -58,13 +58,6 @@ narrowing_starts t fits S Q E r e =
     }
 
 module _ (t : Table) (fits : t.states < 64) (S Q E letters states rest : ℕ) (narrowing : Narrowing t S Q E letters states rest) where
-  -- all states are looked at
-  pub narrowing_ends : listed rest ≡ [] → (letters ≡ between t S Q E) × (states ≡ before t S Q E)
-  narrowing_ends e = (
-    sym (joined_none rest e (λ q. between t S (2 ^ q) E) letters) ∙ narrowing.letter,
-    sym (ap (λ xs. fold (λ a q. either a (2 ^ q)) states (filter (leads t S E) xs)) e) ∙ narrowing.state,
-  )
-
   -- one state i more: fresh are the letters not found before that lead from it
   module _ (i fresh rest' : ℕ) (first : listed rest ≡ i ∷ listed rest') (small : i < 64) (new : fresh ≡ between t (difference S letters) (2 ^ i) E) where
     -- the letters by which i leads to E are those found now or before

@@ -1,13 +1,12 @@
 -- Step 5's loop over the places of a block, from the last to the first: the states kept, and the entries made.
 -- Assumes nothing.
 use Prim.Native.Nat.{ℕ, suc, ◌≤◌, ◌<◌}
-use mathlib.Core.Path.{◌≡◌, refl, sym, ap, ap₂, ◌∙◌}
+use mathlib.Core.Path.{◌≡◌, sym, ap, ap₂, ◌∙◌}
 use mathlib.Core.Logic.{◌⊎◌, inl, inr}
-use mathlib.Core.List.{List, [], ◌∷◌, ◌++◌, append_assoc, append-nil}
+use mathlib.Core.List.{List, [], ◌∷◌, ◌++◌, append_assoc}
 use native.Mathlib.Numerals.{add-one}
-use native.Mathlib.Omega.{arith}
 use Rattle.std.specs.Prelude.{Option, Some, IfSome}
-use Rattle.std.proofs.lemmas.List.{drop-set, drop_all}
+use Rattle.std.proofs.lemmas.List.{drop-set}
 use lib.ListN.{length, get_or, drop, set, replicate}
 use Rattle.model.specs.declared.Block.{Block}
 use Rattle.model.specs.DashedString.{block}
@@ -63,14 +62,6 @@ pub record Placing (t : Table) (S first end n : ℕ) (entries : List Block) (sta
   pub made : entries_to t end first (places S n) ≡ entries_to t states first (places S j) ++ drop j entries
 
 module _ (t : Table) (S first end n : ℕ) (entries : List Block) where
-  -- no place is done yet
-  pub placing_starts : length entries ≡ n → Placing t S first end n entries end n
-  placing_starts e =
-      record {
-        kept = refl;
-        made = sym (ap (λ l. entries_to t end first (places S n) ++ l) (drop_all n entries (omega (arith, e))) ∙ append-nil (entries_to t end first (places S n)));
-      }
-
   module _ (states j : ℕ) (placing : Placing t S first end n entries states j) where
     -- all places are done
     pub placing_ends : j ≡ 0 → (states ≡ kept_to t end first (places S n)) × (entries ≡ entries_to t end first (places S n))

@@ -2,13 +2,13 @@
 -- Assumes nothing.
 use Prim.Native.Nat.{ℕ, zero, suc, ◌+◌, ◌-◌, ◌^◌, ◌≤◌, ◌<◌}
 use mathlib.Core.Path.{◌≡◌, refl, ap, ap₂, sym, ◌∙◌}
-use mathlib.Core.List.{List, [], ◌∷◌, ◌++◌, append_assoc, append-nil}
+use mathlib.Core.List.{List, [], ◌∷◌, ◌++◌, append_assoc}
 use native.Mathlib.Omega.{arith}
 use borrow.Rule.Slice.PartMut.{put_mid}
 use lib.Bits.{and_lt}
 use lib.ListN.{length, get_or, set, take, drop, replicate}
 use lib.Seq.{take-suc, take-take, drop-drop, get_or-take}
-use Rattle.std.proofs.lemmas.List.{drop_all, take_all, drop_at, drop-set, length-take, length-drop}
+use Rattle.std.proofs.lemmas.List.{drop_all, drop_at, drop-set, length-take, length-drop}
 use Rattle.std.proofs.lemmas.Slice.{take-put_mid_below}
 use Rattle.model.specs.declared.Block.{Block}
 use Rattle.model.specs.DashedString.{block, block_at, Each, Bounded}
@@ -98,21 +98,6 @@ pub record Taken (m before : ℕ) (row : List ℕ) (at k : ℕ) (x : Block) : Ty
   pub fits : sets_of x ≤ length row
 
 module _ (t : Table) (Q E : ℕ) (xs : List Block) where
-  -- no block is taken yet
-  pub returning_starts : (n : ℕ) → length xs ≡ n → (blocks : List Block) (row : List ℕ) → take n blocks ≡ xs → row ≡ stored t Q xs
-      → length blocks ≡ lower_sum xs + n → Inside E (final t Q (segments xs)) → Returning t Q E xs blocks Q row E (length blocks) n
-  returning_starts n size blocks row e f g h =
-      let all : take n xs ≡ xs = take_all n xs (omega (arith, size)) in
-      record {
-        few = omega (arith, size);
-        before = e ∙ sym all;
-        start = refl;
-        sets = rw all f;
-        begins = rw all g;
-        inside = rw all h;
-        made = rw (all, drop_all (length blocks) blocks (omega arith), append-nil) refl;
-      }
-
   module _ (blocks : List Block) (first : ℕ) (row : List ℕ) (kept at i : ℕ) (returning : Returning t Q E xs blocks first row kept at i) where
     -- all blocks are taken
     pub returning_ends : i ≡ 0 → blocks ≡ entries_to t E Q (segments xs)

@@ -1,7 +1,7 @@
 -- The states reached by at most so many letters, round by round: each round steps from the states alone that the last one added.
 -- Assumes nothing.
 use Prim.Native.Nat.{ℕ, ◌+◌, ◌^◌, ◌≤◌, ◌<◌}
-use mathlib.Core.Path.{◌≡◌, refl, sym, ◌∙◌}
+use mathlib.Core.Path.{◌≡◌, sym, ◌∙◌}
 use mathlib.Core.Logic.{◌⊎◌, inl, inr, ⊎_elim, ⊎_map}
 use mathlib.Core.Bool.{not}
 use native.Mathlib.Numerals.{add-one}
@@ -31,11 +31,6 @@ pub record Reaching (t : Table) (S Q all front done : ℕ) : Type 0 where
   pub bytes : all < 2 ^ 64
   pub inside : (x : ℕ) → Member x front → Member x all
   pub ahead : (x : ℕ) → Member x (after t S all) → Member x all ⊎ Member x (after t S front)
-
--- before the first round
-pub reaching_starts : (t : Table) (S Q : ℕ) → Q < 2 ^ 64 → Reaching t S Q Q Q 0
-unfolding rounds
-reaching_starts t S Q b = record { reached = refl; bytes = b; inside = λ x m. m; ahead = λ x m. inr m }
 
 module _ (t : Table) (fits : t.states < 64) (S Q all front done : ℕ) (reaching : Reaching t S Q all front done) (r new : ℕ)
     (stepped : r ≡ after t S front) (added : new ≡ difference r all) where

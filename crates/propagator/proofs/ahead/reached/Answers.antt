@@ -1,12 +1,8 @@
 -- `propagator::ahead::reached` meets its contract.
-use mathlib.Core.Path.{refl, ◌∙◌}
+use mathlib.Core.Path.{◌∙◌}
 use native.Mathlib.Omega.{arith}
-use borrow.Author.Rules.{rules}
-use Rattle.propagator.proofs.Rounds.{reaching_starts, reaching_stops, reaching_more}
+use Rattle.propagator.proofs.Rounds.{reaching_stops, reaching_more}
 use Rattle.propagator.proofs.ahead.reached.Goals as goal
-
-pub loop-init : goal.loop-init
-loop-init c = record { same = refl; reaching = reaching_starts _ _ _ (search rules) }
 
 pub returns-then-front-eq0-clause-value : goal.returns-then-front-eq0-clause-value
 returns-then-front-eq0-clause-value c =

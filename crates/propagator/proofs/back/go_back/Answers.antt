@@ -1,15 +1,8 @@
 -- `propagator::back::go_back` meets its contract.
 use Prim.Native.Nat.{◌-◌}
-use mathlib.Core.Path.{refl}
 use native.Mathlib.Omega.{arith}
-use lib.Seq.{length-take-le}
-use Rattle.propagator.proofs.Returning.{part_long, returning_starts, returning_taken, returning_sets, returning_inside, returning_more, returning_ends}
+use Rattle.propagator.proofs.Returning.{part_long, returning_taken, returning_sets, returning_inside, returning_more}
 use Rattle.propagator.proofs.back.go_back.Goals as goal
-
-pub loop-i-init : goal.loop-i-init
-loop-i-init c =
-    let size = length-take-le c.args.count c.args.blocks.now (omega (arith, c.requires.size)) in
-    record { room = omega arith; returning = returning_starts _ _ _ _ _ size _ _ refl c.requires.sets c.requires.size c.requires.inside }
 
 pub overflow_sub-row : goal.overflow_sub-row
 overflow_sub-row c =
@@ -42,6 +35,3 @@ loop-i-preserved c =
       returning = returning_more _ _ _ _ _ _ _ _ _ _ c.loop-i.invariant.returning (c.loop-i.i - 1) (omega arith) (omega arith) _ c.requires.room _ c.sets_of.ensures _ _ first sets
           _ _ _ _ front left (omega arith) made.value made.entries;
     }
-
-pub returns : goal.returns
-returns c = returning_ends _ _ _ _ _ _ _ _ _ _ c.loop-i.invariant.returning (omega arith)
