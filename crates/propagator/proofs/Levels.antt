@@ -74,7 +74,7 @@ pub record Searching (t : Table) (S R E Q w level height : ℕ) : Type 0 where
   pub same : level ≡ to_end t S R E height
   pub least : fewest t S R E Q w ≡ first (w - height) height (near t S R E Q)
 
-module _ (t : Table) (S R E Q w level height : ℕ) (searching : Searching t S R E Q w level height) where
+module _ {t : Table} {S R E Q w level height : ℕ} (searching : Searching t S R E Q w level height) where
   -- a state of Q is of this level
   pub searching_met : (m : ℕ) → Q < 2 ^ 64 → height < w → m ≡ both Q level → ¬ (m ≡ 0) → height ≡ fewest t S R E Q w
   unfolding first

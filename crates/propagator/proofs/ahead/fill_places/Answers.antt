@@ -7,6 +7,6 @@ use Rattle.propagator.proofs.ahead.fill_places.Goals as goal
 
 pub returns-then-next-set : goal.returns-then-next-set
 returns-then-next-set c =
-    let (last, places) = filling_repeats _ _ _ _ _ _ c.loop-j.invariant.filling _ (omega arith) _ _ (omega arith)
+    let (last, places) = filling_repeats c.loop-j.invariant.filling (omega arith) (omega arith)
     (rw c.loop-j.invariant.same at c.step-next.ensures.value) c.if-next-set.true (search rules) in
     record { value = last; same = c.step-next.ensures.same ∙ c.loop-j.invariant.same; places = places }

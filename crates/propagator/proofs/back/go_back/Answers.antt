@@ -6,23 +6,23 @@ use Rattle.propagator.proofs.back.go_back.Goals as goal
 
 pub overflow_sub-row : goal.overflow_sub-row
 overflow_sub-row c =
-    let block = returning_taken _ _ _ _ _ _ _ _ _ _ c.loop-i.invariant.returning (c.loop-i.i - 1) (omega arith) (omega arith) _ c.requires.room in
+    let block = returning_taken c.loop-i.invariant.returning (c.loop-i.i - 1) (omega arith) (omega arith) c.requires.room in
     omega (arith, block.fits, c.sets_of.ensures)
 
 pub overflow_sub-at : goal.overflow_sub-at
 overflow_sub-at c =
-    let block = returning_taken _ _ _ _ _ _ _ _ _ _ c.loop-i.invariant.returning (c.loop-i.i - 1) (omega arith) (omega arith) _ c.requires.room in
+    let block = returning_taken c.loop-i.invariant.returning (c.loop-i.i - 1) (omega arith) (omega arith) c.requires.room in
     omega (arith, block.begins)
 
 pub narrow_block-kept-requires : goal.narrow_block-kept-requires
 narrow_block-kept-requires c =
-    let block = returning_taken _ _ _ _ _ _ _ _ _ _ c.loop-i.invariant.returning (c.loop-i.i - 1) (omega arith) (omega arith) _ c.requires.room in
+    let block = returning_taken c.loop-i.invariant.returning (c.loop-i.i - 1) (omega arith) (omega arith) c.requires.room in
     let (first, sets) = c.split_at.ensures.behind in
     record {
       formed = (block.formed.letters, block.formed.bounds);
       size = part_long _ _ _ (omega (arith, block.begins)) c.loop-i.invariant.room;
-      sets = returning_sets _ _ _ _ _ _ _ _ _ _ c.loop-i.invariant.returning (c.loop-i.i - 1) (omega arith) (omega arith) _ c.requires.room _ c.sets_of.ensures _ _ first sets;
-      inside = returning_inside _ _ _ _ _ _ _ _ _ _ c.loop-i.invariant.returning (c.loop-i.i - 1) (omega arith) (omega arith) _ c.requires.room _ c.sets_of.ensures _ _ first sets;
+      sets = returning_sets c.loop-i.invariant.returning (c.loop-i.i - 1) (omega arith) (omega arith) c.requires.room c.sets_of.ensures first sets;
+      inside = returning_inside c.loop-i.invariant.returning (c.loop-i.i - 1) (omega arith) (omega arith) c.requires.room c.sets_of.ensures first sets;
     }
 
 pub loop-i-preserved : goal.loop-i-preserved
@@ -32,6 +32,6 @@ loop-i-preserved c =
     let made = c.narrow_block-kept.ensures in
     record {
       room = omega arith;
-      returning = returning_more _ _ _ _ _ _ _ _ _ _ c.loop-i.invariant.returning (c.loop-i.i - 1) (omega arith) (omega arith) _ c.requires.room _ c.sets_of.ensures _ _ first sets
-          _ _ _ _ front left (omega arith) made.value made.entries;
+      returning = returning_more c.loop-i.invariant.returning (c.loop-i.i - 1) (omega arith) (omega arith) c.requires.room c.sets_of.ensures first sets
+          front left (omega arith) made.value made.entries;
     }

@@ -9,6 +9,6 @@ loop-j-preserved c =
     let (own, place) = becomes_more _ _ c.set_before-before.result c.loop-j.states _ _ c.loop-j.invariant.last (grind (arith, common_steps)) in
     record {
       last = own;
-      placing = placing_more _ _ _ _ _ _ _ _ c.loop-j.invariant.placing _ _ _ _ (omega arith) (omega arith) (omega arith) c.requires.places
+      placing = placing_more c.loop-j.invariant.placing (omega arith) (omega arith) (omega arith) c.requires.places
           c.set_before-before.ensures place;
     }
