@@ -155,11 +155,12 @@ module _ {t : Table} {Q E : ℕ} {xs blocks : List Block} {first : ℕ} {row : L
       within : Inside kept (final t P (segments_of x))
       within q h = rw (split, final_snoc t Q ys x) at (old.inside q h)
 
-      pub returning_sets : own ≡ stored_by t P' x
-      returning_sets = f ∙ ap (λ j. drop (length row - j) row) count ∙ split_own t Q ys x each formed.bounds row sets ∙ ap (λ q. stored_by t q x) (sym from)
-
-      pub returning_inside : Inside kept (final t P' (segments_of x))
-      returning_inside q h = rw from (within q h)
+      -- its sets, and the states kept behind it are possible there
+      pub returning_own : (own ≡ stored_by t P' x) × Inside kept (final t P' (segments_of x))
+      returning_own = (
+        f ∙ ap (λ j. drop (length row - j) row) count ∙ split_own t Q ys x each formed.bounds row sets ∙ ap (λ q. stored_by t q x) (sym from),
+        λ q h. rw from (within q h),
+      )
 
       -- its entries are made
       pub returning_more : {first' : ℕ} {row' : List ℕ} {r : ℕ} {part : List Block} → first' ≡ first → row' ≡ take (length row - c) row

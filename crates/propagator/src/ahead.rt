@@ -75,6 +75,7 @@ fn pass_block(steps: &mut Steps, block: Block, from: u64, sets: &mut [u64]) -> u
 }
 
 // Goes through the blocks and stores their sets one after another. `start` is the first block's Q0.
+#[tactic(auto, using(crate::proofs::Rows::sum_small, crate::proofs::Forth::passing_fits))]
 pub(crate) fn go_ahead(steps: &mut Steps, blocks: &[Block], start: u64, sets: &mut [u64]) -> Behind
     requires room { Room steps.old.letters.moves.table.letters blocks.now }
     requires sets_fit { stored_sum blocks.now ≤ length sets.old }

@@ -1,7 +1,6 @@
 -- `propagator::ahead::go_ahead` meets its contract.
 use mathlib.Core.Path.{◌∙◌}
 use native.Mathlib.Omega.{arith}
-use Rattle.propagator.proofs.Rows.{sum_small}
 use Rattle.propagator.proofs.Forth.{passing_fits, passing_more, passing_ends}
 use Rattle.propagator.proofs.ahead.go_ahead.Goals as goal
 
@@ -14,11 +13,6 @@ pub slice_bounds-pass_block-end : goal.slice_bounds-pass_block-end
 slice_bounds-pass_block-end c =
     let fits = passing_fits _ c.loop-block.invariant.passing (omega arith) c.sets_of.ensures in
     omega (arith, fits, c.requires.sets_fit)
-
-pub overflow_add-entries-in-loop-block : goal.overflow_add-entries-in-loop-block
-overflow_add-entries-in-loop-block c =
-    let fits = passing_fits _ c.loop-block.invariant.passing (omega arith) c.sets_of.ensures in
-    omega (arith, fits, sum_small _ _ c.requires.room, c.well_formed)
 
 pub loop-block-preserved : goal.loop-block-preserved
 loop-block-preserved c =

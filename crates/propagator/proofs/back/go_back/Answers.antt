@@ -1,7 +1,7 @@
 -- `propagator::back::go_back` meets its contract.
 use Prim.Native.Nat.{◌-◌}
 use native.Mathlib.Omega.{arith}
-use Rattle.propagator.proofs.Returning.{part_long, returning_taken, returning_sets, returning_inside, returning_more}
+use Rattle.propagator.proofs.Returning.{part_long, returning_taken, returning_own, returning_more}
 use Rattle.propagator.proofs.back.go_back.Goals as goal
 
 pub overflow_sub-row : goal.overflow_sub-row
@@ -18,11 +18,12 @@ pub narrow_block-kept-requires : goal.narrow_block-kept-requires
 narrow_block-kept-requires c =
     let block = returning_taken c.loop-i.invariant.returning (c.loop-i.i - 1) (omega arith) (omega arith) c.requires.room in
     let (first, sets) = c.split_at.ensures.behind in
+    let (own, inside) = returning_own c.loop-i.invariant.returning (c.loop-i.i - 1) (omega arith) (omega arith) c.requires.room c.sets_of.ensures first sets in
     record {
       formed = (block.formed.letters, block.formed.bounds);
       size = part_long _ _ _ (omega (arith, block.begins)) c.loop-i.invariant.room;
-      sets = returning_sets c.loop-i.invariant.returning (c.loop-i.i - 1) (omega arith) (omega arith) c.requires.room c.sets_of.ensures first sets;
-      inside = returning_inside c.loop-i.invariant.returning (c.loop-i.i - 1) (omega arith) (omega arith) c.requires.room c.sets_of.ensures first sets;
+      sets = own;
+      inside = inside;
     }
 
 pub loop-i-preserved : goal.loop-i-preserved
