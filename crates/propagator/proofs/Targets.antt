@@ -56,13 +56,9 @@ some_greatest n r P same (x ∷ xs) (Some m) e h = same m h ∙ ap (λ o. leb n 
 
 -- ---- where moves lead
 
--- what the code makes of 1 shifted by n: the states of the book with the dead state, where a move names none, or without it
-pub targets_are : (t : Table) → t.states < 64 → let states = 1 * 2 ^ t.states % 2 ^ 64 - 1 in
-    (some (leb t.states) t.moves ≡ true → either states (2 ^ t.states) ≡ targets t) × (some (leb t.states) t.moves ≡ false → states ≡ targets t)
-unfolding targets
-targets_are t h =
-    let e : 1 * 2 ^ t.states % 2 ^ 64 - 1 ≡ 2 ^ t.states - 1 = omega (arith, pow-lt {i = t.states} {j = 64} h) in
-    (λ s. rw (s, e), λ s. rw (s, e))
+-- 1 shifted by n
+pub shifted : (n : ℕ) → n < 64 → 1 * 2 ^ n % 2 ^ 64 ≡ 2 ^ n
+shifted n h = omega (arith, pow-lt {i = n} {j = 64} h)
 
 -- each number below n is in the set of n ones
 below_in : (n j : ℕ) → j < n → j < 64 → Member j (2 ^ n - 1)
