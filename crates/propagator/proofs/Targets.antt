@@ -27,35 +27,6 @@ use Rattle.bitset.proofs.Laws.{same_test, some_from_lem}
 use Rattle.propagator.specs.Known.{targets, Targets, limit}
 use Rattle.propagator.proofs.Leading.{next_dead}
 
--- ---- whether some move names no state
-
--- the greater of two is at least n where one of them is
-at_least : (n x y : ℕ) → leb n (max x y) ≡ (leb n x || leb n y)
-at_least n x y = go (leb n x) (leb n y) refl refl
-  where
-    go : (v w : Bool) → leb n x ≡ v → leb n y ≡ w → leb n (max x y) ≡ (v || w)
-    go true w d e = le-leb n (max x y) (omega (arith, leb-true n x d))
-    go false true d e = le-leb n (max x y) (omega (arith, leb-true n y e))
-    go false false d e = lt-leb n (max x y) (omega (arith, leb-false n x d, leb-false n y e))
-
--- the greatest of a list is at least n where some number is
-greatest_at_least : (n x : ℕ) (xs : List ℕ) → leb n (fold max x xs) ≡ some (leb n) (x ∷ xs)
-unfolding some
-greatest_at_least n x [] = sym (or-false (leb n x))
-greatest_at_least n x (y ∷ ys) =
-    greatest_at_least n (max x y) ys ∙ ap (λ v. v || some (leb n) ys) (at_least n x y) ∙ or_assoc (leb n x) (leb n y) (some (leb n) ys)
-
--- what is said of the greatest alone
-pub some_greatest : (n : ℕ) (r : Bool) (P : ℕ → Type 0) → ((x : ℕ) → P x → r ≡ leb n x) → (xs : List ℕ) (o : Option ℕ) → option_map (λ x. x) o ≡ reduce max xs
-    → MatchOption o (r ≡ false) P → r ≡ some (leb n) xs
-unfolding some
-some_greatest n r P same [] None e h = h
-some_greatest n r P same (x ∷ xs) None e h = absurd (true≢false (sym (ap is_some e)))
-some_greatest n r P same [] (Some m) e h = absurd (true≢false (ap is_some e))
-some_greatest n r P same (x ∷ xs) (Some m) e h = same m h ∙ ap (λ o. leb n (unwrap_or o 0)) e ∙ greatest_at_least n x xs
-
--- ---- where moves lead
-
 -- 1 shifted by n
 pub shifted : (n : ℕ) → n < 64 → 1 * 2 ^ n % 2 ^ 64 ≡ 2 ^ n
 shifted n h = omega (arith, pow-lt {i = n} {j = 64} h)

@@ -5,7 +5,7 @@ ghost use Rattle.model.specs.declared.Block.{Block};
 ghost use Rattle.records.specs.Mask.{count, blocks_from, mask_of};
 
 use crate::block::block_from;
-use crate::number;
+use crate::frame::count_field;
 use model::Block;
 use std::marker::Model;
 
@@ -32,8 +32,11 @@ impl<'a> Blocks<'a> {
         requires { 6 + 12 * count bytes.now ≤ length bytes.now }
         ensures { result ≡ mask_of bytes.now }
     {
-        let left = number::read(bytes, 4, 2) as usize;
-        Blocks { bytes, at: 6, left }
+        Blocks {
+            bytes,
+            at: 6,
+            left: count_field(bytes),
+        }
     }
 }
 

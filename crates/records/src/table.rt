@@ -20,11 +20,6 @@ impl<'a> Table<'a> {
         requires { (q < self.states) × (c < self.letters) }
         ensures { result ≡ automaton.next (table self.entry) q c }
     {
-        let state = usize::from(self.moves[q * self.letters + c]);
-        if state < self.states {
-            state
-        } else {
-            self.states
-        }
+        usize::from(self.moves[q * self.letters + c]).min(self.states)
     }
 }
