@@ -1,21 +1,16 @@
 -- The states that moves lead to.
 -- Assumes nothing.
-use Prim.Native.Nat.{ℕ, ◌+◌, ◌*◌, ◌-◌, ◌%◌, ◌^◌, ◌≤◌, ◌<◌, max}
-use mathlib.Core.Path.{◌≡◌, refl, sym, ap, ◌∙◌}
+use Prim.Native.Nat.{ℕ, ◌+◌, ◌*◌, ◌-◌, ◌%◌, ◌^◌, ◌≤◌, ◌<◌}
+use mathlib.Core.Path.{◌≡◌, refl, sym}
 use mathlib.Core.Logic.{inl, inr}
-use mathlib.Core.Bool.{Bool, true, false, cond, ◌||◌, true≢false}
-use mathlib.Core.List.{List, [], ◌∷◌}
+use mathlib.Core.Bool.{Bool, true, false, cond}
 use native.Mathlib.Nat.{mod-eq_of_lt}
 use native.Mathlib.Omega.{arith}
-use borrow.Author.Tests.{ltb-true, ltb-false, leb-true, leb-false, le-leb, lt-leb}
-use Rattle.std.proofs.Math.Bool.{or-false, or_assoc}
+use borrow.Author.Tests.{ltb-true, ltb-false, leb-false}
 use lib.Bits.{and_mask}
 use lib.Dec.{ltb, leb}
 use lib.ListN.{length, get_or}
 use lib.Pow.{pow-lt}
-use Rattle.std.specs.Prelude.{Option, None, Some, MatchOption, is_some, fold}
-use Rattle.std.specs.List.{reduce}
-use Rattle.std.specs.Option.{option_map, unwrap_or}
 use Rattle.model.specs.Set.{Member, either, some_from}
 use Rattle.model.specs.Automaton.{Table, next}
 use Rattle.model.proofs.Set.{one_in, in_both, in_either}

@@ -1,8 +1,7 @@
 -- `records::moves::some_stray` meets its contract.
-use Rattle.std.proofs.Common.{◌≡◌, ℕ, suc, ◌+◌, ◌%◌, ◌^◌, leb, map, sym, ◌∙◌, rules, tests, arith}
+use Rattle.std.proofs.Common.{ℕ, suc, ◌+◌, ◌%◌, ◌^◌, leb, map, sym, ◌∙◌, rules, tests, arith}
 use Rattle.std.proofs.lemmas.Iterator.{YieldsList-from_slice, YieldsList-from_map}
 use Rattle.std.proofs.lemmas.Iterator.Consumers.{YieldsList-at, max_from_yields_List}
-use Rattle.records.specs.Check.{some}
 use Rattle.records.specs.Book.{stray}
 use Rattle.records.proofs.Walk.{some_greatest, some_mapped, stray_above}
 use Rattle.records.proofs.moves.some_stray.Goals as goal
