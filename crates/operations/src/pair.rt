@@ -4,7 +4,8 @@ ghost use Rattle.std.proofs.Props.{props};
 ghost use Rattle.model.specs.Refusal.{accepted, refuse, unless};
 ghost use Rattle.model.specs.Set.{some_from};
 ghost use Rattle.model.specs.Size.{Fits, uppers};
-ghost use Rattle.records.specs.Mask.{mask_of, totals_of};
+ghost use Rattle.records.specs.Mask.{totals_of};
+ghost use Rattle.records.specs.Read.{blocks_of};
 ghost use Rattle.operations.specs.Props.{each_one};
 
 use model::Refusal;
@@ -16,13 +17,12 @@ pub(crate) struct Pair<'a> {
     pub book: Book<'a>,
     pub mask: Mask<'a>,
     pub totals: Totals,
-    pub ghost fits: { Fits book.table.letters (mask_of mask.bytes.now) } by { Prim.hlevel (props, each_one) },
-    pub ghost summed: { totals ≡ totals_of (mask_of mask.bytes.now) },
+    pub ghost fits: { Fits book.table.letters (blocks_of mask) } by { Prim.hlevel (props, each_one) },
+    pub ghost summed: { totals ≡ totals_of (blocks_of mask) },
 }
 
 impl<'a> Pair<'a> {
     ghost use Rattle.operations.specs.Pair.{ReadsPair};
-    ghost use Rattle.records.specs.Read.{blocks_of};
 
     // A book and a mask, or the first check that fails: book checks, mask checks, 9.
     pub(crate) fn read(book: &'a [u8], mask: &'a [u8]) -> Result<Pair<'a>, Refusal>

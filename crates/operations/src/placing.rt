@@ -18,7 +18,8 @@ pub(crate) fn missing(mask: Mask, block: usize, place: usize) -> bool
     block == 0 || mask.len() < block || usize::from(mask.block(block - 1).lower) < place
 }
 
-// Where the entries of a block, from 0, begin in the narrowed list: each block before has l + 1 of them.
+// Where the entries of a block, from 0, begin in the narrowed list: each block before has l + 1 of them, of which a mask that fits
+// has few.
 fn first_entry(pair: Pair, block: usize) -> usize
     requires { block < length (blocks_of pair.mask) }
     ensures { result ≡ begins (blocks_of pair.entry.mask) block }
