@@ -1,7 +1,7 @@
 // A word followed through the moves of a book, letter by letter.
 ghost use Rattle.std.specs.Prelude.{◌≡◌, ◌≤◌, ◌<◌};
 ghost use Rattle.model.specs.Automaton as spec;
-ghost use Rattle.records.specs.Read as book;
+ghost use Rattle.records.specs.Read as read;
 ghost use Rattle.membership.specs.Word.{Letters};
 
 use records::Table;
@@ -10,7 +10,7 @@ use records::Table;
 #[tactic(auto, using(crate::proofs::Moving::run_more, crate::proofs::Moving::run_dies, model::proofs::Automaton::next_le))]
 pub(crate) fn run(table: Table, start: usize, word: &[u8]) -> usize
     requires { (start < table.states) × Letters table.letters word.now }
-    ensures { (result ≡ spec.run (book.table table.entry) start word.now) × (result ≤ table.entry.states) }
+    ensures { (result ≡ spec.run (read.table table.entry) start word.now) × (result ≤ table.entry.states) }
 {
     let mut state = start;
     for letter in word {

@@ -9,7 +9,7 @@ use Rattle.model.specs.Refusal.{accepted, refuse}
 use Rattle.model.specs.Set.{either, some_from}
 use Rattle.model.specs.DashedString.{Each}
 use Rattle.model.specs.Size.{Fits, uppers}
-use Rattle.records.specs.declared.Totals.{Totals}
+use Rattle.records.specs.declared.totals.Totals.{Totals}
 use Rattle.records.specs.declared.book.Book.{Book}
 use Rattle.records.specs.Mask.{blocks_refusal, totals_of, with_letters, read_blocks, foreign}
 use Rattle.records.specs.Read.{automaton, ReadsBook}

@@ -6,7 +6,7 @@ use Rattle.model.specs.declared.Refusal.TheVariants.{Foreign}
 use Rattle.model.specs.Refusal.{accepted, refuse}
 use Rattle.model.specs.Set.{some_from}
 use Rattle.model.specs.Size.{Room, Fits}
-use Rattle.records.specs.declared.Totals.{Totals}
+use Rattle.records.specs.declared.totals.Totals.{Totals}
 use Rattle.records.specs.declared.book.Book.{Book}
 use Rattle.records.specs.Bytes.{Bytes}
 use Rattle.records.specs.Book.{book_head, book_of, book_refusal}

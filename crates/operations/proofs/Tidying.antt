@@ -19,6 +19,7 @@ use Rattle.model.specs.Size.{Fits}
 use Rattle.model.proofs.NormalForm.{normal_spells, normal_reduced}
 use Rattle.model.proofs.Room.{normal_shorter, normal_fits}
 use Rattle.records.specs.declared.mask.Mask.{Mask}
+use Rattle.records.specs.declared.totals.Totals.{Totals}
 use Rattle.records.specs.Bytes.{Bytes, over}
 use Rattle.records.specs.Mask.{mask_of, mask_refusal}
 use Rattle.records.specs.Read.{blocks_of, ReadsMask}
@@ -35,8 +36,8 @@ use Rattle.std.proofs.lemmas.List.Edits.{sets}
 use Rattle.operations.specs.Tidy.{tidy_record, tidy_refusal, tidied, tidy_buffer, tidy_numbers, Rewrites, Tidies}
 
 -- an accepted mask fits a record
-pub mask_fits : (ms : List ℕ) (m : Mask) → Bytes ms → ReadsMask ms (Ok m) → Fits 64 (blocks_of m)
-mask_fits ms m bytes h = rw h.1 (record_fits_64 ms bytes h.0)
+pub mask_fits : (ms : List ℕ) (m : Mask) (t : Totals) → Bytes ms → ReadsMask ms (Ok (m, t)) → Fits 64 (blocks_of m)
+mask_fits ms m t bytes h = rw h.1 (record_fits_64 ms bytes h.0)
 
 -- n blocks of the normal form, and a buffer
 module _ (ms : List ℕ) (n : ℕ) (size : n ≡ length (normal (mask_of ms))) (old : List ℕ) where

@@ -39,7 +39,7 @@ pub fn narrow(book: &[u8], mask: &[u8], out: &mut [u8]) -> Result<Narrowed, Refu
     ensures { Narrows (from_record book.now mask.now) out.old out.new result }
 {
     let pair = Pair::read(book, mask)?;
-    if pair.mask.len() <= 64 && pair.mask.totals.uppers <= 64 {
+    if pair.is_small() {
         return narrow_sized::<64, 128>(pair, out);
     }
     narrow_sized::<1024, 2048>(pair, out)
@@ -66,7 +66,7 @@ pub fn narrow_list(book: &[u8], blocks: &[Block], out: &mut [u8]) -> Result<Narr
 pub fn tidy(mask: &[u8], out: &mut [u8]) -> Result<u32, Refusal>
     ensures { Tidies mask.now out.old out.new result }
 {
-    let mask = records::read_mask(mask)?;
+    let (mask, _) = records::read_mask(mask)?;
     write_tidied(mask, out)
 }
 
@@ -77,8 +77,7 @@ pub fn place(book: &[u8], mask: &[u8], block: u32, place: u32) -> Result<Block, 
     ensures { Places book.now mask.now block place result }
 {
     let pair = Pair::read(book, mask)?;
-    let block = block as usize;
-    let place = place as usize;
+    let (block, place) = (block as usize, place as usize);
     if missing(pair.mask, block, place) {
         return Err(Refusal::Missing);
     }

@@ -15,10 +15,11 @@ use records::Mask;
 pub(crate) fn missing(mask: Mask, block: usize, place: usize) -> bool
     ensures { result ≡ absent (blocks_of mask.entry) block place }
 {
-    block == 0 || mask.len() < block || (mask.block(block - 1).lower as usize) < place
+    block == 0 || mask.len() < block || usize::from(mask.block(block - 1).lower) < place
 }
 
-// Where the entries of a block, from 0, begin in the narrowed list: each block before has l + 1 of them.
+// Where the entries of a block, from 0, begin in the narrowed list: each block before has l + 1 of them, of which a mask that fits
+// has few.
 fn first_entry(pair: Pair, block: usize) -> usize
     requires { block < length (blocks_of pair.mask) }
     ensures { result ≡ begins (blocks_of pair.entry.mask) block }
@@ -26,7 +27,7 @@ fn first_entry(pair: Pair, block: usize) -> usize
     pair.mask
         .blocks()
         .take(block)
-        .map(|x| x.lower as usize + 1)
+        .map(|x| usize::from(x.lower) + 1)
         .sum()
 }
 
@@ -38,19 +39,19 @@ fn entry_of(pair: Pair, block: usize, place: usize) -> usize
 {
     let first = first_entry(pair, block);
     if place == 0 {
-        return first + pair.mask.block(block).lower as usize;
+        return first + usize::from(pair.mask.block(block).lower);
     }
     first + (place - 1)
 }
 
-// The set and bounds of a block, from 1, and a place that are not missing.
+// The set and bounds that place answers with, of a block, from 1, and a place, neither of them missing.
 #[tactic(auto, using(crate::proofs::EntryNumbers::entry_within, crate::proofs::Placed::none_missing), unfolding(model::specs::Place::place))]
 pub(crate) fn place_entry(pair: Pair, block: usize, place: usize) -> Block
     requires { absent (blocks_of pair.mask) block place ≡ false }
     ensures { result ≡ placed (automaton pair.entry.book) (blocks_of pair.entry.mask) block place }
 {
     let entry = entry_of(pair, block - 1, place);
-    if pair.mask.len() <= 64 && pair.mask.totals.uppers <= 64 {
+    if pair.is_small() {
         return place_sized::<64, 128>(pair, entry);
     }
     place_sized::<1024, 2048>(pair, entry)

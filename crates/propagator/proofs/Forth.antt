@@ -33,25 +33,20 @@ pub record Filling (t : Table) (S Q : ℕ) (sets : List ℕ) (P j : ℕ) : Type 
   pub last : P ≡ exactly t S Q j
   pub places : take j sets ≡ places_of t S Q j
 
--- no set is stored yet
-pub filling_starts : (t : Table) (S Q : ℕ) (sets : List ℕ) → Filling t S Q sets Q 0
-unfolding exactly places_of
-filling_starts t S Q sets = record { last = refl; places = refl }
-
-module _ (t : Table) (S Q : ℕ) (sets : List ℕ) (P j : ℕ) (filling : Filling t S Q sets P j) where
+module _ {t : Table} {S Q : ℕ} {sets : List ℕ} {P j : ℕ} (filling : Filling t S Q sets P j) where
   -- one place more
-  pub filling_more : (r : ℕ) → j < length sets → r ≡ after t S P → Filling t S Q (set sets j r) r (j + 1)
+  pub filling_more : {r : ℕ} → j < length sets → r ≡ after t S P → Filling t S Q (set sets j r) r (j + 1)
   unfolding exactly places_of
-  filling_more r h e =
+  filling_more {r} h e =
       let next : r ≡ exactly t S Q (suc j) = rw (← filling.last) e in
       record { last = rw (add-one j) next; places = rw (add-one j) (take-suc-set sets j r h ∙ ap₂ (λ ps x. ps ++ x ∷ []) filling.places next) }
 
   -- of n sets
-  module _ (n : ℕ) (size : length sets ≡ n) where
+  module _ {n : ℕ} (size : length sets ≡ n) where
     -- the set repeats, and all places behind are filled with it
-    pub filling_repeats : (r : ℕ) (part : List ℕ) → j ≤ n → r ≡ after t S P → r ≡ P → part ≡ replicate (length sets - j) P
+    pub filling_repeats : {r : ℕ} {part : List ℕ} → j ≤ n → r ≡ after t S P → r ≡ P → part ≡ replicate (length sets - j) P
         → (P ≡ exactly t S Q n) × (put_mid j (length sets - j) sets part ≡ places_of t S Q n)
-    filling_repeats r part h e d filled =
+    filling_repeats {r} {part} h e d filled =
         let (last, all) = places_filled t S Q j n P part filling.last (sym e ∙ d) h (rw size at filled) in
         (last, put_end j sets part ∙ ap (λ ps. ps ++ part) filling.places ∙ all)
 
@@ -90,11 +85,7 @@ pub record Passing (t : Table) (Q : ℕ) (xs : List Block) (sets : List ℕ) (st
   pub sum : at + stored_sum rest ≡ stored_sum xs
   pub made : stored t Q xs ≡ take at sets ++ stored t states rest
 
--- none is
-pub passing_starts : (t : Table) (Q : ℕ) (xs : List Block) (sets : List ℕ) → Passing t Q xs sets Q 0 0 xs
-passing_starts t Q xs sets = record { here = refl; counted = omega arith; sum = omega arith; made = refl }
-
-module _ (t : Table) (Q : ℕ) (xs : List Block) (sets : List ℕ) (states entries at i : ℕ) (passing : Passing t Q xs sets states entries at (drop i xs)) where
+module _ {t : Table} {Q : ℕ} {xs : List Block} {sets : List ℕ} {states entries at : ℕ} (i : ℕ) (passing : Passing t Q xs sets states entries at (drop i xs)) where
   -- all are passed
   pub passing_ends : i ≡ length xs
       → (states ≡ final t Q (segments xs)) × (entries ≡ lower_sum xs + length xs) × (at ≡ stored_sum xs) × (take at sets ≡ stored t Q xs)
@@ -104,7 +95,7 @@ module _ (t : Table) (Q : ℕ) (xs : List Block) (sets : List ℕ) (states entri
       (sym old.here, omega (arith, old.counted), omega (arith, old.sum), sym (old.made ∙ append-nil (take at sets)))
 
   -- block i, which has k sets
-  module _ (h : i < length xs) (k : ℕ) (size : k ≡ sets_of (block_at xs i)) where
+  module _ (h : i < length xs) {k : ℕ} (size : k ≡ sets_of (block_at xs i)) where
     abbrev x : Block
     x = block_at xs i
 
@@ -117,10 +108,10 @@ module _ (t : Table) (Q : ℕ) (xs : List Block) (sets : List ℕ) (states entri
     passing_fits = (omega (arith, old.sum, size), omega (arith, old.counted))
 
     -- it is passed
-    pub passing_more : (m : ℕ) → Room m xs → (r : ℕ) (part : List ℕ) → r ≡ final t states (segments_of x) → part ≡ stored_by t states x → at ≤ length sets
+    pub passing_more : {m : ℕ} → Room m xs → {r : ℕ} {part : List ℕ} → r ≡ final t states (segments_of x) → part ≡ stored_by t states x → at ≤ length sets
         → Passing t Q xs (put_mid at (at + k - at) sets part) r (entries + (x.lower + 1)) (at + k) (drop (i + 1) xs)
     unfolding lower_sum stored_sum stored
-    passing_more m room r part f g fits =
+    passing_more {m} room {r} {part} f g fits =
         let rest = drop (suc i) xs in
         let long = length_by t states x (each_get (WellFormed m) xs room.each i (block 0 0 0) h).bounds in
         rw (add-one i)

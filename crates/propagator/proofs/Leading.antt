@@ -3,8 +3,6 @@
 use Prim.Native.Nat.{ℕ, ◌^◌, ◌≤◌, ◌<◌}
 use mathlib.Core.Path.{◌≡◌, refl, ◌∙◌}
 use mathlib.Core.Logic.{◌↔◌}
-use mathlib.Core.Bool.{true, false}
-use mathlib.Core.List.{[], ◌∷◌}
 use native.Mathlib.Omega.{arith}
 use borrow.Author.Tests.{le-ltb}
 use lib.Dec.{T}
@@ -28,12 +26,8 @@ unfolding next
 next_dead t q c h = rw (le-ltb q t.states h)
 
 -- a move leads to a state with a number below 64
-next_small : (t : Table) → t.states < 64 → (q c : ℕ) → next t q c < 64
+pub next_small : (t : Table) → t.states < 64 → (q c : ℕ) → next t q c < 64
 next_small t fits q c = omega (arith, next_le t q c)
-
--- and so does one that is given by an equation
-pub moved_small : (t : Table) (q c r : ℕ) → r ≡ next t q c → t.states < 64 → r < 64
-moved_small t q c r e fits = rw e (next_small t fits q c)
 
 -- the states after one letter are a set of 8 bytes
 pub reach_bytes : (t : Table) → t.states < 64 → (S q : ℕ) → reach t S q < 2 ^ 64
@@ -67,23 +61,9 @@ letters_between t fits S q E h =
 abbrev pub leading_letters : Table → ℕ → ℕ → ℕ → ℕ → ℕ
 leading_letters t q E found rest = fold (λ a c. either a (2 ^ c)) found (filter (λ c. has E (next t q c)) (listed rest))
 
-module _ (t : Table) (q E : ℕ) where
-  -- none is found yet
-  pub letters_start : t.states < 64 → (S r : ℕ) → q < 64 → r ≡ S → leading_letters t q E 0 r ≡ between t S (2 ^ q) E
-  letters_start fits S r h e = rw e (members_listed S (λ c. has E (next t q c)) ∙ letters_between t fits S q E h)
-
-  module _ (rest rest' c r found : ℕ) (first : listed rest ≡ c ∷ listed rest') (e : r ≡ next t q c) where
-    -- the first letter leads there
-    pub letters_more : has E r ≡ true → leading_letters t q E (either found (2 ^ c)) rest' ≡ leading_letters t q E found rest
-    letters_more h = let leads : has E (next t q c) ≡ true = rw (← e) h in rw (first, leads)
-
-    -- it does not
-    pub letters_same : has E r ≡ false → leading_letters t q E found rest' ≡ leading_letters t q E found rest
-    letters_same h = let leads : has E (next t q c) ≡ false = rw (← e) h in rw (first, leads)
-
-  -- no letter is left
-  pub letters_end : (rest found : ℕ) → listed rest ≡ [] → found ≡ leading_letters t q E found rest
-  letters_end rest found e = rw e
+-- none is found yet
+pub letters_start : (t : Table) → t.states < 64 → (S q E r : ℕ) → q < 64 → r ≡ S → leading_letters t q E 0 r ≡ between t S (2 ^ q) E
+letters_start t fits S q E r h e = rw e (members_listed S (λ c. has E (next t q c)) ∙ letters_between t fits S q E h)
 
 -- ---- some letter that leads to a set
 

@@ -46,11 +46,6 @@ level_raised t fits S R level others more bytes e d =
 -- ---- level by level
 
 module _ (t : Table) (S R E : ℕ) where
-  -- the lowest level
-  pub level_first : E ≡ to_end t S R E 0
-  unfolding rounds
-  level_first = refl
-
   -- the level above
   pub level_next : (d level next : ℕ) → level ≡ to_end t S R E d → next ≡ either level (before t S R level) → next ≡ to_end t S R E (d + 1)
   unfolding rounds
@@ -79,14 +74,7 @@ pub record Searching (t : Table) (S R E Q w level height : ℕ) : Type 0 where
   pub same : level ≡ to_end t S R E height
   pub least : fewest t S R E Q w ≡ first (w - height) height (near t S R E Q)
 
--- no level is looked at yet
-pub searching_starts : (t : Table) (S R E Q w : ℕ) → E < 2 ^ 64 → Searching t S R E Q w E 0
-unfolding fewest
-searching_starts t S R E Q w h =
-    let all : w - 0 ≡ w = omega arith in
-    record { bytes = h; same = level_first t S R E; least = rw all }
-
-module _ (t : Table) (S R E Q w level height : ℕ) (searching : Searching t S R E Q w level height) where
+module _ {t : Table} {S R E Q w level height : ℕ} (searching : Searching t S R E Q w level height) where
   -- a state of Q is of this level
   pub searching_met : (m : ℕ) → Q < 2 ^ 64 → height < w → m ≡ both Q level → ¬ (m ≡ 0) → height ≡ fewest t S R E Q w
   unfolding first

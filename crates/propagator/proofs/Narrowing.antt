@@ -1,10 +1,10 @@
 -- Step 5's loop over the states before one place: the letters that stay in it, and the states kept before it.
 -- Assumes nothing.
 use Prim.Native.Nat.{ℕ, ◌^◌, ◌<◌}
-use mathlib.Core.Path.{◌≡◌, sym, ap, ◌∙◌}
+use mathlib.Core.Path.{◌≡◌, sym, ◌∙◌}
 use mathlib.Core.Logic.{◌⊎◌, inl, inr, ⊎_elim}
 use mathlib.Core.Bool.{true, false}
-use mathlib.Core.List.{[], ◌∷◌}
+use mathlib.Core.List.{◌∷◌}
 use native.Mathlib.Omega.{arith}
 use lib.Bits.{or_lt}
 use Rattle.std.specs.Prelude.{filter, fold}
@@ -16,7 +16,7 @@ use Rattle.model.proofs.Steps.{between_bytes, in_between}
 use Rattle.bitset.specs.Difference.{difference}
 use Rattle.bitset.specs.Listed.{listed}
 use Rattle.bitset.proofs.Laws.{same_test, same_members, trailing_first, in_difference}
-use Rattle.bitset.proofs.Listed.{joined, union_listed, members_listed, joined_none, joined_next}
+use Rattle.bitset.proofs.Listed.{joined, union_listed, members_listed, joined_next}
 use Rattle.propagator.specs.Moves.{leads}
 use Rattle.propagator.proofs.Gathering.{inside_or_not}
 use Rattle.propagator.proofs.Leading.{Leading, leads_exact, leading_before}
@@ -48,8 +48,8 @@ each_between t fits S Q E =
     ))
 
 -- no state is looked at yet
-pub narrowing_starts : (t : Table) → t.states < 64 → (S Q E r : ℕ) → r ≡ Q → Narrowing t S Q E 0 0 r
-narrowing_starts t fits S Q E r e =
+pub narrowing_starts : {t : Table} → t.states < 64 → {S Q E r : ℕ} → r ≡ Q → Narrowing t S Q E 0 0 r
+narrowing_starts {t} fits {S} {Q} {E} {r} e =
     record {
       bytes = omega arith;
       inside = λ c m. absurd (in_none m);
@@ -57,16 +57,9 @@ narrowing_starts t fits S Q E r e =
       state = rw e (members_listed Q (leads t S E) ∙ leading_before t S Q E);
     }
 
-module _ (t : Table) (fits : t.states < 64) (S Q E letters states rest : ℕ) (narrowing : Narrowing t S Q E letters states rest) where
-  -- all states are looked at
-  pub narrowing_ends : listed rest ≡ [] → (letters ≡ between t S Q E) × (states ≡ before t S Q E)
-  narrowing_ends e = (
-    sym (joined_none rest e (λ q. between t S (2 ^ q) E) letters) ∙ narrowing.letter,
-    sym (ap (λ xs. fold (λ a q. either a (2 ^ q)) states (filter (leads t S E) xs)) e) ∙ narrowing.state,
-  )
-
+module _ {t : Table} (fits : t.states < 64) {S Q E letters states rest : ℕ} (narrowing : Narrowing t S Q E letters states rest) where
   -- one state i more: fresh are the letters not found before that lead from it
-  module _ (i fresh rest' : ℕ) (first : listed rest ≡ i ∷ listed rest') (small : i < 64) (new : fresh ≡ between t (difference S letters) (2 ^ i) E) where
+  module _ (i rest' : ℕ) {fresh : ℕ} (first : listed rest ≡ i ∷ listed rest') (small : i < 64) (new : fresh ≡ between t (difference S letters) (2 ^ i) E) where
     -- the letters by which i leads to E are those found now or before
     leading : {c : ℕ} → Member c S → Member (next t i c) E → Member c letters ⊎ Member c fresh
     leading {c} n e =
@@ -127,10 +120,10 @@ module _ (t : Table) (fits : t.states < 64) (S Q E letters states rest : ℕ) (n
         rw (first, no, e))
 
     -- what was found with this state too
-    pub narrowing_more : (letters' states' : ℕ) → letters' ≡ either letters fresh
+    pub narrowing_more : {letters' states' : ℕ} → letters' ≡ either letters fresh
         → ((¬ (fresh ≡ 0) ⊎ (leads t letters E i ≡ true)) × (states' ≡ either states (2 ^ i))) ⊎ ((fresh ≡ 0) × (leads t letters E i ≡ false) × (states' ≡ states))
         → Narrowing t S Q E letters' states' rest'
-    narrowing_more letters' states' e kept =
+    narrowing_more {letters'} {states'} e kept =
         record {
           bytes = rw e (or_lt 64 letters fresh narrowing.bytes fresh_bytes);
           inside = rw e (λ c m. ⊎_elim (narrowing.inside c) (λ k. (fresh_leads k).0) ((in_either letters fresh).0 m));

@@ -1,13 +1,12 @@
 -- Step 5's loop over the places of a block, from the last to the first: the states kept, and the entries made.
 -- Assumes nothing.
 use Prim.Native.Nat.{ℕ, suc, ◌≤◌, ◌<◌}
-use mathlib.Core.Path.{◌≡◌, refl, sym, ap, ap₂, ◌∙◌}
+use mathlib.Core.Path.{◌≡◌, sym, ap, ap₂, ◌∙◌}
 use mathlib.Core.Logic.{◌⊎◌, inl, inr}
-use mathlib.Core.List.{List, [], ◌∷◌, ◌++◌, append_assoc, append-nil}
+use mathlib.Core.List.{List, [], ◌∷◌, ◌++◌, append_assoc}
 use native.Mathlib.Numerals.{add-one}
-use native.Mathlib.Omega.{arith}
 use Rattle.std.specs.Prelude.{Option, Some, IfSome}
-use Rattle.std.proofs.lemmas.List.{drop-set, drop_all}
+use Rattle.std.proofs.lemmas.List.{drop-set}
 use lib.ListN.{length, get_or, drop, set, replicate}
 use Rattle.model.specs.declared.Block.{Block}
 use Rattle.model.specs.DashedString.{block}
@@ -62,37 +61,28 @@ pub record Placing (t : Table) (S first end n : ℕ) (entries : List Block) (sta
   pub kept : kept_to t end first (places S n) ≡ kept_to t states first (places S j)
   pub made : entries_to t end first (places S n) ≡ entries_to t states first (places S j) ++ drop j entries
 
-module _ (t : Table) (S first end n : ℕ) (entries : List Block) where
-  -- no place is done yet
-  pub placing_starts : length entries ≡ n → Placing t S first end n entries end n
-  placing_starts e =
+module _ {t : Table} {S first end n : ℕ} {entries : List Block} {states j : ℕ} (placing : Placing t S first end n entries states j) where
+  -- all places are done
+  pub placing_ends : j ≡ 0 → (states ≡ kept_to t end first (places S n)) × (entries ≡ entries_to t end first (places S n))
+  unfolding kept_to entries_to
+  placing_ends none = (sym (rw none at placing.kept), sym (rw none at placing.made))
+
+  -- one place more, whose set before it is Q
+  pub placing_more : {i P : ℕ} {kept : Kept} {sets : List ℕ} → j ≡ suc i → i < length entries → i ≤ n → sets ≡ places_of t S first n
+      → P ≡ get_or (first ∷ sets) i 0 → Becomes t S P states kept
+      → Placing t S first end n (set entries i (block kept.letters 1 1)) kept.states i
+  placing_more {i} {P} {kept} {sets} e h few stored q place =
+      let old : Placing t S first end n entries states (suc i) = rw e at placing in
+      let here : P ≡ exactly t S first i = q ∙ ap (λ s. get_or (first ∷ s) i 0) stored ∙ place_before t S first n i few in
+      let done : Becomes t S (exactly t S first i) states kept = rw here at place in
+      let x = block kept.letters 1 1 in
       record {
-        kept = refl;
-        made = sym (ap (λ l. entries_to t end first (places S n) ++ l) (drop_all n entries (omega (arith, e))) ∙ append-nil (entries_to t end first (places S n)));
+        kept = old.kept ∙ kept_snoc t S first states i ∙ ap (λ s. kept_to t s first (places S i)) (sym done.state);
+        made =
+            old.made
+            ∙ ap (λ l. l ++ drop (suc i) entries) (entries_snoc t S first states i)
+            ∙ append_assoc (entries_to t (before t S (exactly t S first i) states) first (places S i)) (block (between t S (exactly t S first i) states) 1 1 ∷ [])
+            (drop (suc i) entries)
+            ∙ ap₂ (λ s l. entries_to t s first (places S i) ++ l) (sym done.state)
+            (ap₂ (λ l n. block l 1 1 ∷ drop n entries) (sym done.letter) (sym (add-one i)) ∙ sym (drop-set entries i x h));
       }
-
-  module _ (states j : ℕ) (placing : Placing t S first end n entries states j) where
-    -- all places are done
-    pub placing_ends : j ≡ 0 → (states ≡ kept_to t end first (places S n)) × (entries ≡ entries_to t end first (places S n))
-    unfolding kept_to entries_to
-    placing_ends none = (sym (rw none at placing.kept), sym (rw none at placing.made))
-
-    -- one place more, whose set before it is Q
-    pub placing_more : (i P : ℕ) (kept : Kept) (sets : List ℕ) → j ≡ suc i → i < length entries → i ≤ n → sets ≡ places_of t S first n
-        → P ≡ get_or (first ∷ sets) i 0 → Becomes t S P states kept
-        → Placing t S first end n (set entries i (block kept.letters 1 1)) kept.states i
-    placing_more i P kept sets e h few stored q place =
-        let old : Placing t S first end n entries states (suc i) = rw e at placing in
-        let here : P ≡ exactly t S first i = q ∙ ap (λ s. get_or (first ∷ s) i 0) stored ∙ place_before t S first n i few in
-        let done : Becomes t S (exactly t S first i) states kept = rw here at place in
-        let x = block kept.letters 1 1 in
-        record {
-          kept = old.kept ∙ kept_snoc t S first states i ∙ ap (λ s. kept_to t s first (places S i)) (sym done.state);
-          made =
-              old.made
-              ∙ ap (λ l. l ++ drop (suc i) entries) (entries_snoc t S first states i)
-              ∙ append_assoc (entries_to t (before t S (exactly t S first i) states) first (places S i)) (block (between t S (exactly t S first i) states) 1 1 ∷ [])
-              (drop (suc i) entries)
-              ∙ ap₂ (λ s l. entries_to t s first (places S i) ++ l) (sym done.state)
-              (ap₂ (λ l n. block l 1 1 ∷ drop n entries) (sym done.letter) (sym (add-one i)) ∙ sym (drop-set entries i x h));
-        }

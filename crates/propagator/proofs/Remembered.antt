@@ -4,18 +4,18 @@ use Prim.Native.Nat.{ℕ, ◌^◌, ◌<◌}
 use mathlib.Core.Path.{◌≡◌, refl, sym, ◌∙◌}
 use mathlib.Core.Logic.{⊎_elim}
 use mathlib.Core.Bool.{Bool, true, false}
-use mathlib.Core.List.{List, [], ◌∷◌}
+use mathlib.Core.List.{List, []}
 use borrow.Author.Tests.{eqb-true, eqb-false}
 use lib.Dec.{eqb}
 use lib.ListN.{length, get_or, set}
 use lib.Seq.{get_or-set_same, get_or-set_other}
-use Rattle.model.specs.Set.{Member, has, either, union_of}
+use Rattle.model.specs.Set.{Member, either, union_of}
 use Rattle.model.specs.Automaton.{Table, next}
 use Rattle.model.specs.Passes.{reach, after}
-use Rattle.model.proofs.Set.{member, in_union, union_bytes}
+use Rattle.model.proofs.Set.{in_union, union_bytes}
 use Rattle.model.proofs.Steps.{in_after}
 use Rattle.bitset.specs.Listed.{listed}
-use Rattle.bitset.proofs.Listed.{joined, union_listed, joined_none, joined_next, joined_keeps}
+use Rattle.bitset.proofs.Listed.{joined, union_listed, joined_none, joined_keeps}
 use Rattle.bitset.proofs.Laws.{same_members, in_add}
 use Rattle.propagator.specs.Moves.{Below}
 use Rattle.propagator.specs.Known.{image, Targets, limit}
@@ -25,10 +25,6 @@ use Rattle.propagator.proofs.Targets.{in_limit}
 -- ---- the numbers f i, which stand as elements i of a list, for each i of a set
 
 module _ (f : ℕ → ℕ) (known : List ℕ) (s : ℕ) (held : (j : ℕ) → Member j s → get_or known j 0 ≡ f j) (i : ℕ) (small : i < 64) where
-  -- a number that is known
-  pub held_there : has s i ≡ true → get_or known i 0 ≡ f i
-  held_there e = held i (member small (rw e tt))
-
   -- one more is known
   pub held_more : (r all : ℕ) → i < length known → r ≡ f i → all ≡ either s (2 ^ i) → (j : ℕ) → Member j all → get_or (set known i r) j 0 ≡ f j
   held_more r all here e d j m = ⊎_elim (λ n. old (eqb j i) refl n) (λ o. rw o new) ((in_add s i j small).0 (rw d at m))
@@ -51,21 +47,13 @@ pub stepping_starts : (t : Table) (S Q r : ℕ) → r ≡ Q → Stepping t S Q r
 unfolding after
 stepping_starts t S Q r e = rw e (union_listed Q (reach t S))
 
-module _ (t : Table) (S Q rest found : ℕ) (stepping : Stepping t S Q rest found) where
-  -- one state more
-  pub stepping_more : (q r found' rest' : ℕ) → listed rest ≡ q ∷ listed rest' → r ≡ reach t S q → found' ≡ either found r → Stepping t S Q rest' found'
-  stepping_more q r found' rest' l e d = rw (d, e) (sym (joined_next rest rest' q l (reach t S) found) ∙ stepping)
-
-  -- no state is left
-  pub stepping_ends : listed rest ≡ [] → found ≡ after t S Q
-  stepping_ends e = sym (joined_none rest e (reach t S) found) ∙ stepping
-
-  -- all states that a letter can lead to are found
-  pub stepping_full : t.states < 64 → (B : ℕ) → found < 2 ^ 64 → Targets t B → Below t.letters S → found ≡ limit t.states B Q → found ≡ after t S Q
-  stepping_full fits B bytes targets below e = same_members found (after t S Q) bytes (after_bytes t fits S Q) (λ x. (
-    λ m. rw stepping at (joined_keeps rest (reach t S) found x m),
-    λ m. let (q, n, c, l, o) = (in_after t fits S Q).0 m in rw e (rw o at (in_limit t fits B Q targets q c n (below c l))),
-  ))
+-- all states that a letter can lead to are found
+pub stepping_full : (t : Table) (S Q rest found : ℕ) → Stepping t S Q rest found → t.states < 64 → (B : ℕ) → found < 2 ^ 64 → Targets t B
+    → Below t.letters S → found ≡ limit t.states B Q → found ≡ after t S Q
+stepping_full t S Q rest found stepping fits B bytes targets below e = same_members found (after t S Q) bytes (after_bytes t fits S Q) (λ x. (
+  λ m. rw stepping at (joined_keeps rest (reach t S) found x m),
+  λ m. let (q, n, c, l, o) = (in_after t fits S Q).0 m in rw e (rw o at (in_limit t fits B Q targets q c n (below c l))),
+))
 
 -- ---- the states after one letter, letter by letter
 
@@ -92,11 +80,6 @@ Imaging t S Q rest found = joined (image t Q) found rest ≡ union_of S (image t
 pub imaging_starts : (t : Table) (S Q r : ℕ) → r ≡ S → Imaging t S Q r 0
 imaging_starts t S Q r e = rw e (union_listed S (image t Q))
 
-module _ (t : Table) (S Q rest found : ℕ) (imaging : Imaging t S Q rest found) where
-  -- one letter more
-  pub imaging_more : (c r found' rest' : ℕ) → listed rest ≡ c ∷ listed rest' → r ≡ image t Q c → found' ≡ either found r → Imaging t S Q rest' found'
-  imaging_more c r found' rest' l e d = rw (d, e) (sym (joined_next rest rest' c l (image t Q) found) ∙ imaging)
-
-  -- no letter is left
-  pub imaging_ends : t.states < 64 → listed rest ≡ [] → found ≡ after t S Q
-  imaging_ends fits e = sym (joined_none rest e (image t Q) found) ∙ imaging ∙ images_are t fits S Q
+-- no letter is left
+pub imaging_ends : (t : Table) (S Q rest found : ℕ) → Imaging t S Q rest found → t.states < 64 → listed rest ≡ [] → found ≡ after t S Q
+imaging_ends t S Q rest found imaging fits e = sym (joined_none rest e (image t Q) found) ∙ imaging ∙ images_are t fits S Q

@@ -2,13 +2,13 @@
 -- Assumes nothing.
 use Prim.Native.Nat.{ℕ, zero, suc, ◌+◌, ◌-◌, ◌^◌, ◌≤◌, ◌<◌}
 use mathlib.Core.Path.{◌≡◌, refl, ap, ap₂, sym, ◌∙◌}
-use mathlib.Core.List.{List, [], ◌∷◌, ◌++◌, append_assoc, append-nil}
+use mathlib.Core.List.{List, [], ◌∷◌, ◌++◌, append_assoc}
 use native.Mathlib.Omega.{arith}
 use borrow.Rule.Slice.PartMut.{put_mid}
 use lib.Bits.{and_lt}
 use lib.ListN.{length, get_or, set, take, drop, replicate}
 use lib.Seq.{take-suc, take-take, drop-drop, get_or-take}
-use Rattle.std.proofs.lemmas.List.{drop_all, take_all, drop_at, drop-set, length-take, length-drop}
+use Rattle.std.proofs.lemmas.List.{drop_all, drop_at, drop-set, length-take, length-drop}
 use Rattle.std.proofs.lemmas.Slice.{take-put_mid_below}
 use Rattle.model.specs.declared.Block.{Block}
 use Rattle.model.specs.DashedString.{block, block_at, Each, Bounded}
@@ -97,113 +97,98 @@ pub record Taken (m before : ℕ) (row : List ℕ) (at k : ℕ) (x : Block) : Ty
   pub begins : at ≡ before + k + (x.lower + 1)
   pub fits : sets_of x ≤ length row
 
-module _ (t : Table) (Q E : ℕ) (xs : List Block) where
-  -- no block is taken yet
-  pub returning_starts : (n : ℕ) → length xs ≡ n → (blocks : List Block) (row : List ℕ) → take n blocks ≡ xs → row ≡ stored t Q xs
-      → length blocks ≡ lower_sum xs + n → Inside E (final t Q (segments xs)) → Returning t Q E xs blocks Q row E (length blocks) n
-  returning_starts n size blocks row e f g h =
-      let all : take n xs ≡ xs = take_all n xs (omega (arith, size)) in
-      record {
-        few = omega (arith, size);
-        before = e ∙ sym all;
-        start = refl;
-        sets = rw all f;
-        begins = rw all g;
-        inside = rw all h;
-        made = rw (all, drop_all (length blocks) blocks (omega arith), append-nil) refl;
-      }
+module _ {t : Table} {Q E : ℕ} {xs blocks : List Block} {first : ℕ} {row : List ℕ} {kept at i : ℕ} (returning : Returning t Q E xs blocks first row kept at i) where
+  -- all blocks are taken
+  pub returning_ends : i ≡ 0 → blocks ≡ entries_to t E Q (segments xs)
+  unfolding lower_sum entries_to
+  returning_ends none =
+      let old : Returning t Q E xs blocks first row kept at 0 = rw none at returning in
+      let start : at ≡ 0 = omega (arith, old.begins) in
+      sym (rw start at old.made)
 
-  module _ (blocks : List Block) (first : ℕ) (row : List ℕ) (kept at i : ℕ) (returning : Returning t Q E xs blocks first row kept at i) where
-    -- all blocks are taken
-    pub returning_ends : i ≡ 0 → blocks ≡ entries_to t E Q (segments xs)
-    unfolding lower_sum entries_to
-    returning_ends none =
-        let old : Returning t Q E xs blocks first row kept at 0 = rw none at returning in
-        let start : at ≡ 0 = omega (arith, old.begins) in
-        sym (rw start at old.made)
+  -- the next block, i - 1 = k
+  module _ (k : ℕ) (next : i ≡ suc k) (long : k < length blocks) {m : ℕ} (room : Room m xs) where
+    abbrev x : Block
+    x = block_at blocks k
 
-    -- the next block, i - 1 = k
-    module _ (k : ℕ) (next : i ≡ suc k) (long : k < length blocks) (m : ℕ) (room : Room m xs) where
-      abbrev x : Block
-      x = block_at blocks k
+    abbrev ys : List Block
+    ys = take k xs
 
-      abbrev ys : List Block
-      ys = take k xs
+    abbrev P : ℕ
+    P = final t Q (segments ys)
 
-      abbrev P : ℕ
-      P = final t Q (segments ys)
+    old : Returning t Q E xs blocks first row kept at (suc k)
+    old = rw next at returning
 
-      old : Returning t Q E xs blocks first row kept at (suc k)
-      old = rw next at returning
+    -- it is what it was
+    is : x ≡ block_at xs k
+    is =
+        sym (get_or-take (suc k) blocks k (block 0 0 0) (omega arith))
+        ∙ ap (λ l. block_at l k) old.before
+        ∙ get_or-take (suc k) xs k (block 0 0 0) (omega arith)
 
-      -- it is what it was
-      is : x ≡ block_at xs k
-      is =
-          sym (get_or-take (suc k) blocks k (block 0 0 0) (omega arith))
-          ∙ ap (λ l. block_at l k) old.before
-          ∙ get_or-take (suc k) xs k (block 0 0 0) (omega arith)
+    formed : WellFormed m x
+    formed = rw is (each_get (WellFormed m) xs room.each k (block 0 0 0) (omega (arith, old.few)))
 
-      formed : WellFormed m x
-      formed = rw is (each_get (WellFormed m) xs room.each k (block 0 0 0) (omega (arith, old.few)))
+    each : Each Bounded ys
+    each = each_take Bounded xs (each_map (WellFormed m) Bounded (λ y f. f.bounds) xs room.each) k
 
-      each : Each Bounded ys
-      each = each_take Bounded xs (each_map (WellFormed m) Bounded (λ y f. f.bounds) xs room.each) k
+    -- the first i blocks are those before it, and it
+    split : take (suc k) xs ≡ ys ++ x ∷ []
+    split = take-suc xs k (block 0 0 0) (omega (arith, old.few)) ∙ ap (λ y. ys ++ y ∷ []) (sym is)
 
-      -- the first i blocks are those before it, and it
-      split : take (suc k) xs ≡ ys ++ x ∷ []
-      split = take-suc xs k (block 0 0 0) (omega (arith, old.few)) ∙ ap (λ y. ys ++ y ∷ []) (sym is)
+    sets : row ≡ stored t Q (ys ++ x ∷ [])
+    sets = old.sets ∙ ap (stored t Q) split
 
-      sets : row ≡ stored t Q (ys ++ x ∷ [])
-      sets = old.sets ∙ ap (stored t Q) split
+    begins : at ≡ lower_sum ys + k + (x.lower + 1)
+    begins = omega (arith, old.begins, ap lower_sum split, sum_snoc ys x)
 
-      begins : at ≡ lower_sum ys + k + (x.lower + 1)
-      begins = omega (arith, old.begins, ap lower_sum split, sum_snoc ys x)
+    -- it is taken
+    pub returning_taken : Taken m (lower_sum ys) row at k x
+    returning_taken = record { formed = formed; begins = begins; fits = split_fits t Q ys x each formed.bounds row sets }
 
-      -- it is taken
-      pub returning_taken : Taken m (lower_sum ys) row at k x
-      returning_taken = record { formed = formed; begins = begins; fits = split_fits t Q ys x each formed.bounds row sets }
+    -- own are its c sets, and P' is its Q0
+    module _ {c : ℕ} (count : c ≡ sets_of x) {P' : ℕ} {own : List ℕ} (e : P' ≡ get_or (first ∷ row) (length row - c) 0) (f : own ≡ drop (length row - c) row) where
+      from : P' ≡ P
+      from = e ∙ ap₂ (λ q j. get_or (q ∷ row) (length row - j) 0) old.start count ∙ split_first t Q ys x each formed.bounds row sets
 
-      -- own are its c sets, and P' is its Q0
-      module _ (c : ℕ) (count : c ≡ sets_of x) (P' : ℕ) (own : List ℕ) (e : P' ≡ get_or (first ∷ row) (length row - c) 0) (f : own ≡ drop (length row - c) row) where
-        from : P' ≡ P
-        from = e ∙ ap₂ (λ q j. get_or (q ∷ row) (length row - j) 0) old.start count ∙ split_first t Q ys x each formed.bounds row sets
+      within : Inside kept (final t P (segments_of x))
+      within q h = rw (split, final_snoc t Q ys x) at (old.inside q h)
 
-        within : Inside kept (final t P (segments_of x))
-        within q h = rw (split, final_snoc t Q ys x) at (old.inside q h)
+      -- its sets, and the states kept behind it are possible there
+      pub returning_own : (own ≡ stored_by t P' x) × Inside kept (final t P' (segments_of x))
+      returning_own = (
+        f ∙ ap (λ j. drop (length row - j) row) count ∙ split_own t Q ys x each formed.bounds row sets ∙ ap (λ q. stored_by t q x) (sym from),
+        λ q h. rw from (within q h),
+      )
 
-        pub returning_sets : own ≡ stored_by t P' x
-        returning_sets = f ∙ ap (λ j. drop (length row - j) row) count ∙ split_own t Q ys x each formed.bounds row sets ∙ ap (λ q. stored_by t q x) (sym from)
-
-        pub returning_inside : Inside kept (final t P' (segments_of x))
-        returning_inside q h = rw from (within q h)
-
-        -- its entries are made
-        pub returning_more : (first' : ℕ) (row' : List ℕ) (r : ℕ) (part : List Block) → first' ≡ first → row' ≡ take (length row - c) row
-            → at - (x.lower + 1) ≤ length blocks → r ≡ kept_to t kept P' (segments_of x) → part ≡ entries_to t kept P' (segments_of x)
-            → let at' = at - (x.lower + 1) in Returning t Q E xs (put_mid at' (at - at') blocks part) first' row' r at' k
-        returning_more first' row' r part p q room' g made =
-            let at' = at - (x.lower + 1) in
-            let blocks' = put_mid at' (at - at') blocks part in
-            let back : at' + (at - at') ≡ at = omega arith in
-            let behind : drop at' blocks' ≡ part ++ drop at blocks
-            = drop_at (take at' blocks) (part ++ drop (at - at') (drop at' blocks)) at' (omega (arith, length-take at' blocks))
-            ∙ ap (λ l. part ++ l) (drop-drop (at - at') at' blocks ∙ ap (λ j. drop j blocks) back) in
-            let g' : r ≡ kept_to t kept P (segments_of x) = rw from at g in
-            let made' : part ≡ entries_to t kept P (segments_of x) = rw from at made in
-            record {
-              few = omega (arith, old.few);
-              before =
-                  take-put_mid_below at' (at - at') blocks part k (omega (arith, begins)) room'
-                  ∙ sym (take-take k (suc k) blocks (omega arith))
-                  ∙ ap (take k) old.before
-                  ∙ take-take k (suc k) xs (omega arith);
-              start = p ∙ old.start;
-              sets = q ∙ ap (λ j. take (length row - j) row) count ∙ split_front t Q ys x each formed.bounds row sets;
-              begins = omega (arith, begins);
-              inside = λ j h. kept_inside t kept P (segments_of x) within j (rw g' at h);
-              made =
-                  old.made
-                  ∙ ap (λ l. l ++ drop at blocks) (ap (λ zs. entries_to t kept Q (segments zs)) split ∙ entries_snoc t kept Q ys x)
-                  ∙ append_assoc (entries_to t (kept_to t kept P (segments_of x)) Q (segments ys)) (entries_to t kept P (segments_of x)) (drop at blocks)
-                  ∙ ap₂ (λ s l. entries_to t s Q (segments ys) ++ l) (sym g') (ap (λ l. l ++ drop at blocks) (sym made') ∙ sym behind);
-            }
+      -- its entries are made
+      pub returning_more : {first' : ℕ} {row' : List ℕ} {r : ℕ} {part : List Block} → first' ≡ first → row' ≡ take (length row - c) row
+          → at - (x.lower + 1) ≤ length blocks → r ≡ kept_to t kept P' (segments_of x) → part ≡ entries_to t kept P' (segments_of x)
+          → let at' = at - (x.lower + 1) in Returning t Q E xs (put_mid at' (at - at') blocks part) first' row' r at' k
+      returning_more {first'} {row'} {r} {part} p q room' g made =
+          let at' = at - (x.lower + 1) in
+          let blocks' = put_mid at' (at - at') blocks part in
+          let back : at' + (at - at') ≡ at = omega arith in
+          let behind : drop at' blocks' ≡ part ++ drop at blocks
+          = drop_at (take at' blocks) (part ++ drop (at - at') (drop at' blocks)) at' (omega (arith, length-take at' blocks))
+          ∙ ap (λ l. part ++ l) (drop-drop (at - at') at' blocks ∙ ap (λ j. drop j blocks) back) in
+          let g' : r ≡ kept_to t kept P (segments_of x) = rw from at g in
+          let made' : part ≡ entries_to t kept P (segments_of x) = rw from at made in
+          record {
+            few = omega (arith, old.few);
+            before =
+                take-put_mid_below at' (at - at') blocks part k (omega (arith, begins)) room'
+                ∙ sym (take-take k (suc k) blocks (omega arith))
+                ∙ ap (take k) old.before
+                ∙ take-take k (suc k) xs (omega arith);
+            start = p ∙ old.start;
+            sets = q ∙ ap (λ j. take (length row - j) row) count ∙ split_front t Q ys x each formed.bounds row sets;
+            begins = omega (arith, begins);
+            inside = λ j h. kept_inside t kept P (segments_of x) within j (rw g' at h);
+            made =
+                old.made
+                ∙ ap (λ l. l ++ drop at blocks) (ap (λ zs. entries_to t kept Q (segments zs)) split ∙ entries_snoc t kept Q ys x)
+                ∙ append_assoc (entries_to t (kept_to t kept P (segments_of x)) Q (segments ys)) (entries_to t kept P (segments_of x)) (drop at blocks)
+                ∙ ap₂ (λ s l. entries_to t s Q (segments ys) ++ l) (sym g') (ap (λ l. l ++ drop at blocks) (sym made') ∙ sym behind);
+          }

@@ -1,7 +1,7 @@
 -- The states reached by at most so many letters, round by round: each round steps from the states alone that the last one added.
 -- Assumes nothing.
 use Prim.Native.Nat.{ℕ, ◌+◌, ◌^◌, ◌≤◌, ◌<◌}
-use mathlib.Core.Path.{◌≡◌, refl, sym, ◌∙◌}
+use mathlib.Core.Path.{◌≡◌, sym, ◌∙◌}
 use mathlib.Core.Logic.{◌⊎◌, inl, inr, ⊎_elim, ⊎_map}
 use mathlib.Core.Bool.{not}
 use native.Mathlib.Numerals.{add-one}
@@ -32,12 +32,7 @@ pub record Reaching (t : Table) (S Q all front done : ℕ) : Type 0 where
   pub inside : (x : ℕ) → Member x front → Member x all
   pub ahead : (x : ℕ) → Member x (after t S all) → Member x all ⊎ Member x (after t S front)
 
--- before the first round
-pub reaching_starts : (t : Table) (S Q : ℕ) → Q < 2 ^ 64 → Reaching t S Q Q Q 0
-unfolding rounds
-reaching_starts t S Q b = record { reached = refl; bytes = b; inside = λ x m. m; ahead = λ x m. inr m }
-
-module _ (t : Table) (fits : t.states < 64) (S Q all front done : ℕ) (reaching : Reaching t S Q all front done) (r new : ℕ)
+module _ {t : Table} (fits : t.states < 64) {S Q all front done : ℕ} (reaching : Reaching t S Q all front done) {r new : ℕ}
     (stepped : r ≡ after t S front) (added : new ≡ difference r all) where
   -- a state after one letter is there, or new
   new_ahead : (x : ℕ) → Member x (after t S all) → Member x all ⊎ Member x new
@@ -69,9 +64,9 @@ module _ (t : Table) (fits : t.states < 64) (S Q all front done : ℕ) (reaching
       reaching.reached ∙ sym (rounds_stay (after t S) Q done width (rw reaching.reached at same) h)
 
   -- something is
-  pub reaching_more : (all' : ℕ) → all' ≡ either all new → Reaching t S Q all' new (done + 1)
+  pub reaching_more : {all' : ℕ} → all' ≡ either all new → Reaching t S Q all' new (done + 1)
   unfolding rounds
-  reaching_more all' d =
+  reaching_more {all'} d =
       let parts : (q : ℕ) → Member q all' → Member q all ⊎ Member q new = λ q n. (in_either all new).0 (rw d at n) in
       record {
         reached = rw (add-one done, ← reaching.reached) (d ∙ next_same);

@@ -1,21 +1,16 @@
 -- The states that moves lead to.
 -- Assumes nothing.
-use Prim.Native.Nat.{ℕ, ◌+◌, ◌*◌, ◌-◌, ◌%◌, ◌^◌, ◌≤◌, ◌<◌, max}
-use mathlib.Core.Path.{◌≡◌, refl, sym, ap, ◌∙◌}
+use Prim.Native.Nat.{ℕ, ◌+◌, ◌*◌, ◌-◌, ◌%◌, ◌^◌, ◌≤◌, ◌<◌}
+use mathlib.Core.Path.{◌≡◌, refl, sym}
 use mathlib.Core.Logic.{inl, inr}
-use mathlib.Core.Bool.{Bool, true, false, cond, ◌||◌, true≢false}
-use mathlib.Core.List.{List, [], ◌∷◌}
+use mathlib.Core.Bool.{Bool, true, false, cond}
 use native.Mathlib.Nat.{mod-eq_of_lt}
 use native.Mathlib.Omega.{arith}
-use borrow.Author.Tests.{ltb-true, ltb-false, leb-true, leb-false, le-leb, lt-leb}
-use Rattle.std.proofs.Math.Bool.{or-false, or_assoc}
+use borrow.Author.Tests.{ltb-true, ltb-false, leb-false}
 use lib.Bits.{and_mask}
 use lib.Dec.{ltb, leb}
 use lib.ListN.{length, get_or}
 use lib.Pow.{pow-lt}
-use Rattle.std.specs.Prelude.{Option, None, Some, MatchOption, is_some, fold}
-use Rattle.std.specs.List.{reduce}
-use Rattle.std.specs.Option.{option_map, unwrap_or}
 use Rattle.model.specs.Set.{Member, either, some_from}
 use Rattle.model.specs.Automaton.{Table, next}
 use Rattle.model.proofs.Set.{one_in, in_both, in_either}
@@ -27,42 +22,9 @@ use Rattle.bitset.proofs.Laws.{same_test, some_from_lem}
 use Rattle.propagator.specs.Known.{targets, Targets, limit}
 use Rattle.propagator.proofs.Leading.{next_dead}
 
--- ---- whether some move names no state
-
--- the greater of two is at least n where one of them is
-at_least : (n x y : ℕ) → leb n (max x y) ≡ (leb n x || leb n y)
-at_least n x y = go (leb n x) (leb n y) refl refl
-  where
-    go : (v w : Bool) → leb n x ≡ v → leb n y ≡ w → leb n (max x y) ≡ (v || w)
-    go true w d e = le-leb n (max x y) (omega (arith, leb-true n x d))
-    go false true d e = le-leb n (max x y) (omega (arith, leb-true n y e))
-    go false false d e = lt-leb n (max x y) (omega (arith, leb-false n x d, leb-false n y e))
-
--- the greatest of a list is at least n where some number is
-greatest_at_least : (n x : ℕ) (xs : List ℕ) → leb n (fold max x xs) ≡ some (leb n) (x ∷ xs)
-unfolding some
-greatest_at_least n x [] = sym (or-false (leb n x))
-greatest_at_least n x (y ∷ ys) =
-    greatest_at_least n (max x y) ys ∙ ap (λ v. v || some (leb n) ys) (at_least n x y) ∙ or_assoc (leb n x) (leb n y) (some (leb n) ys)
-
--- what is said of the greatest alone
-pub some_greatest : (n : ℕ) (r : Bool) (P : ℕ → Type 0) → ((x : ℕ) → P x → r ≡ leb n x) → (xs : List ℕ) (o : Option ℕ) → option_map (λ x. x) o ≡ reduce max xs
-    → MatchOption o (r ≡ false) P → r ≡ some (leb n) xs
-unfolding some
-some_greatest n r P same [] None e h = h
-some_greatest n r P same (x ∷ xs) None e h = absurd (true≢false (sym (ap is_some e)))
-some_greatest n r P same [] (Some m) e h = absurd (true≢false (ap is_some e))
-some_greatest n r P same (x ∷ xs) (Some m) e h = same m h ∙ ap (λ o. leb n (unwrap_or o 0)) e ∙ greatest_at_least n x xs
-
--- ---- where moves lead
-
--- what the code makes of 1 shifted by n: the states of the book with the dead state, where a move names none, or without it
-pub targets_are : (t : Table) → t.states < 64 → let states = 1 * 2 ^ t.states % 2 ^ 64 - 1 in
-    (some (leb t.states) t.moves ≡ true → either states (2 ^ t.states) ≡ targets t) × (some (leb t.states) t.moves ≡ false → states ≡ targets t)
-unfolding targets
-targets_are t h =
-    let e : 1 * 2 ^ t.states % 2 ^ 64 - 1 ≡ 2 ^ t.states - 1 = omega (arith, pow-lt {i = t.states} {j = 64} h) in
-    (λ s. rw (s, e), λ s. rw (s, e))
+-- 1 shifted by n
+pub shifted : (n : ℕ) → n < 64 → 1 * 2 ^ n % 2 ^ 64 ≡ 2 ^ n
+shifted n h = omega (arith, pow-lt {i = n} {j = 64} h)
 
 -- each number below n is in the set of n ones
 below_in : (n j : ℕ) → j < n → j < 64 → Member j (2 ^ n - 1)

@@ -20,6 +20,7 @@ pub(crate) struct Behind {
 }
 
 // Stores Q1 to Ql, where `from` is Q0; returns Ql. Where a set repeats, all that follow are that set.
+#[tactic(auto, using(crate::proofs::Forth::filling_more, crate::proofs::Forth::filling_repeats, crate::proofs::Forth::filling_ends), unfolding(crate::specs::Moves::exactly, crate::specs::Rows::places_of))]
 fn fill_places(steps: &mut Steps, from: u64, places: &mut [u64]) -> u64
     ensures value { result ≡ exactly (table steps.old.letters.moves.table) steps.old.letters.set from (length places.old) }
     ensures same { steps.new.letters ≡ steps.old.letters }
@@ -40,6 +41,7 @@ fn fill_places(steps: &mut Steps, from: u64, places: &mut [u64]) -> u64
 
 // The states reached from `from` by at most `width` letters. Each round steps from the states alone that the last
 // one added.
+#[tactic(auto, unfolding(model::specs::Passes::rounds))]
 fn reached(steps: &mut Steps, from: u64, width: usize) -> u64
     ensures value { result ≡ passes.at_most (table steps.old.letters.moves.table) steps.old.letters.set from width }
     ensures same { steps.new.letters ≡ steps.old.letters }
@@ -73,6 +75,7 @@ fn pass_block(steps: &mut Steps, block: Block, from: u64, sets: &mut [u64]) -> u
 }
 
 // Goes through the blocks and stores their sets one after another. `start` is the first block's Q0.
+#[tactic(auto, using(crate::proofs::Rows::sum_small, crate::proofs::Forth::passing_fits))]
 pub(crate) fn go_ahead(steps: &mut Steps, blocks: &[Block], start: u64, sets: &mut [u64]) -> Behind
     requires room { Room steps.old.letters.moves.table.letters blocks.now }
     requires sets_fit { stored_sum blocks.now ≤ length sets.old }

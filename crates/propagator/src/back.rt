@@ -12,6 +12,7 @@ use crate::row::{Row, sets_of};
 use model::Block;
 
 // One block: makes its entries. `row` are its sets, Q0 before them, and `end` is its E; returns its M0.
+#[tactic(auto, using(crate::proofs::Returning::block_long))]
 fn narrow_block(moves: Moves, block: Block, row: Row, end: u64, entries: &mut [Block]) -> u64
     requires formed { Below moves.table.letters block.base × (block.lower ≤ block.upper) }
     requires size { length entries.old ≡ block.lower + 1 }
@@ -40,6 +41,7 @@ fn narrow_block(moves: Moves, block: Block, row: Row, end: u64, entries: &mut [B
 // Goes back through the first `count` blocks and puts the entries of each in its place, over the blocks themselves: block i's
 // entries begin at i or behind. `row` are the sets of these blocks, the start before them, and `end` the states kept behind the
 // last.
+#[tactic(auto, using(crate::proofs::Returning::returning_ends))]
 pub(crate) fn go_back(moves: Moves, mut row: Row, end: u64, blocks: &mut [Block], count: usize)
     requires room { Room moves.table.letters (take count blocks.old) }
     requires size { length blocks.old ≡ lower_sum (take count blocks.old) + count }

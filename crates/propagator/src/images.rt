@@ -23,6 +23,7 @@ impl<'a> Steps<'a> {
     }
 
     // The states after one of the letters.
+    #[tactic(auto, using(crate::proofs::Remembered::imaging_starts, crate::proofs::Remembered::imaging_ends))]
     pub(crate) fn step_by_letters(&mut self) -> u64
         ensures value { result ≡ after (table self.old.letters.moves.table) self.old.letters.set self.old.from }
         ensures same { self.new.letters ≡ self.old.letters }

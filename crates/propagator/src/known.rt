@@ -29,6 +29,7 @@ pub(crate) struct Steps<'a> {
 
 impl<'a> Steps<'a> {
     // By no letter, and nothing is known but where moves lead.
+    #[tactic(auto, using(model::proofs::Set::in_none))]
     pub(crate) fn new(moves: Moves<'a>) -> Steps<'a>
         requires { 0 < moves.table.states }
         ensures { result.letters.moves ≡ moves.entry }
@@ -45,6 +46,7 @@ impl<'a> Steps<'a> {
     }
 
     // Turns to the letters of `set`: what was worked out for another set is forgotten.
+    #[tactic(auto, using(model::proofs::Set::in_none))]
     pub(crate) fn turn_to(&mut self, set: u64)
         requires { Below self.old.letters.moves.table.letters set }
         ensures turned { self.new.letters.set ≡ set }
@@ -75,6 +77,7 @@ impl<'a> Steps<'a> {
     }
 
     // The states that one letter can lead to from states of `from`.
+    #[tactic(auto, unfolding(crate::specs::Known::limit))]
     fn limit(&self, from: u64) -> u64
         ensures { result ≡ spec.limit self.now.letters.moves.table.states self.now.targets from }
     {
@@ -86,6 +89,7 @@ impl<'a> Steps<'a> {
     }
 
     // The states after one of the letters from states of `from`, state by state, until all that a letter can lead to are found.
+    #[tactic(auto, using(crate::proofs::Remembered::stepping_starts, crate::proofs::Gathering::comes_small))]
     fn step_by_states(&mut self, from: u64) -> u64
         ensures value { result ≡ after (table self.old.letters.moves.table) self.old.letters.set from }
         ensures same { self.new.letters ≡ self.old.letters }
@@ -102,6 +106,7 @@ impl<'a> Steps<'a> {
     }
 
     // The states after one of the letters from states of `from`: letter by letter where the last step was from these states too.
+    #[tactic(auto, using(model::proofs::Set::in_none))]
     pub(crate) fn step(&mut self, from: u64) -> u64
         ensures value { result ≡ after (table self.old.letters.moves.table) self.old.letters.set from }
         ensures same { self.new.letters ≡ self.old.letters }

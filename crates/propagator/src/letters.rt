@@ -26,6 +26,7 @@ impl<'a> Letters<'a> {
 
     // The letters by which state `q` moves to a state of `end`. A loop with an `if`: of that the compiler makes one without a
     // jump, and of a `filter` it does not.
+    #[tactic(auto, using(crate::proofs::Leading::letters_start, crate::proofs::Gathering::comes_small))]
     pub(crate) fn letters_to(self, q: usize, end: u64) -> u64
         requires { q < 64 }
         ensures { result ≡ between (table self.entry.moves.table) self.entry.set (2 ^ q) end }

@@ -17,6 +17,7 @@ impl<'a> Moves<'a> {
     ghost use Rattle.records.specs.Read.{table};
 
     // The state that state `q`, the dead state or one without a number among them, moves to by letter `c`.
+    #[tactic(auto, using(crate::proofs::Leading::next_dead, crate::proofs::Leading::next_small))]
     pub(crate) fn next(self, q: usize, c: usize) -> usize
         requires { c < self.table.letters }
         ensures value { result ≡ automaton.next (table self.entry.table) q c }
@@ -37,6 +38,7 @@ impl<'a> Moves<'a> {
     }
 
     // The states of the book and, where some move names none, the dead state.
+    #[tactic(auto, using(crate::proofs::Targets::shifted), unfolding(crate::specs::Known::targets))]
     pub(crate) fn targets(self) -> u64
         requires { 0 < self.table.states }
         ensures { result ≡ spec.targets (table self.entry.table) }

@@ -31,6 +31,7 @@ impl<'a> Letters<'a> {
     }
 
     // Level `height`, through states of `within` to states of `end`. Where a level repeats, all above are that level.
+    #[tactic(auto, unfolding(model::specs::Passes::rounds))]
     fn level_of(self, within: u64, end: u64, height: u16) -> u64
         ensures { result ≡ to_end (table self.entry.moves.table) self.entry.set within end height }
     {
@@ -46,6 +47,7 @@ impl<'a> Letters<'a> {
     }
 
     // The least b(q) over the states q of `from`, or `width` where none is below.
+    #[tactic(auto, using(crate::proofs::Levels::searching_met, crate::proofs::Levels::searching_more, crate::proofs::Levels::searching_ends), unfolding(model::specs::Passes::rounds, model::specs::Passes::fewest))]
     fn fewest(self, within: u64, end: u64, from: u64, width: u16) -> u16
         ensures { result ≡ passes.fewest (table self.entry.moves.table) self.entry.set within end from width }
     {
@@ -61,6 +63,7 @@ impl<'a> Letters<'a> {
 
     // The optional part of at most `width` letters: `from` are the states possible before it, `within` those possible behind it
     // and `end` those kept behind it.
+    #[tactic(auto, using(crate::proofs::Levels::optional_none, crate::proofs::Levels::optional_some), unfolding(model::specs::Passes::rounds, model::specs::Passes::pruned, model::specs::Passes::backward))]
     pub(crate) fn narrow_optional(self, width: u16, from: u64, within: u64, end: u64) -> Optional
         requires within_value { (within ≡ at_most (table self.moves.table) self.set from width) × (both within end ≡ end) }
         ensures block_value { result.block ≡ pruned (table self.entry.moves.table) from (optional self.entry.set width) end }

@@ -21,6 +21,7 @@ pub(crate) struct Kept {
 impl<'a> Letters<'a> {
     // The letters by which some move goes from a state of `from` to a state of `end`, and those former states. Of each
     // state the letters not yet kept are looked at; where none leads to `end`, one kept letter that does keeps the state.
+    #[tactic(auto, using(bitset::proofs::Laws::in_difference, crate::proofs::Gathering::comes_small))]
     pub(crate) fn narrow_place(self, from: u64, end: u64) -> Kept
         ensures { (result.from ≡ from) × (result.to ≡ end) × Becomes (table self.entry.moves.table) self.entry.set from end result }
     {
@@ -52,6 +53,7 @@ impl<'a> Letters<'a> {
     // The places of a block, from the last to the first: makes their entries. `row` are Q1 to Ql, Q0 before them, and `end` the
     // states kept behind the last; returns those kept before the first. `last` is what some place became: one between the same
     // sets becomes that too, and so one between the same sets as the place behind it.
+    #[tactic(auto, using(crate::proofs::Stored::places_long, crate::proofs::Placing::placing_ends))]
     pub(crate) fn narrow_places(
         self,
         row: Row,

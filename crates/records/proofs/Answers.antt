@@ -5,6 +5,7 @@ use Rattle.model.specs.declared.Refusal.{Refusal}
 use Rattle.model.specs.Refusal.{accepted, unless}
 use Rattle.records.specs.declared.book.Book.{Book}
 use Rattle.records.specs.declared.mask.Mask.{Mask}
+use Rattle.records.specs.declared.totals.Totals.{Totals}
 use Rattle.records.specs.Book.{book_of, book_refusal}
 use Rattle.records.specs.Mask.{count, mask_of, totals_of, mask_refusal}
 use Rattle.records.specs.Read.{automaton, blocks_of, ReadsBook, ReadsMask}
@@ -29,14 +30,14 @@ book_accepted bs b h = h
 pub book_refused : (bs : List ℕ) (r : Refusal) → ReadsBook bs (Err r) → book_refusal bs ≡ Some r
 book_refused bs r h = h
 
--- a mask: no check refused it, and it has these bytes and their totals
-pub mask_accepted : (bs : List ℕ) (m : Mask) → ReadsMask bs (Ok m)
-    → (mask_refusal bs ≡ accepted) × (m.bytes.now ≡ bs) × (m.totals ≡ totals_of (mask_of bs))
-mask_accepted bs m h = h
+-- a mask: no check refused it, it has these bytes, and the totals are those of its blocks
+pub mask_accepted : (bs : List ℕ) (m : Mask) (t : Totals) → ReadsMask bs (Ok (m, t))
+    → (mask_refusal bs ≡ accepted) × (m.bytes.now ≡ bs) × (t ≡ totals_of (mask_of bs))
+mask_accepted bs m t h = h
 
 -- and its bytes are those of as many blocks as they say
-pub mask_holds : (bs : List ℕ) (m : Mask) → ReadsMask bs (Ok m) → (length (blocks_of m) ≡ count bs) × (6 + 12 * count bs ≤ length bs)
-mask_holds bs m h = (rw h.1 (blocks_counted bs), omega (arith, (mask_record bs h.0).size))
+pub mask_holds : (bs : List ℕ) (m : Mask) (t : Totals) → ReadsMask bs (Ok (m, t)) → (length (blocks_of m) ≡ count bs) × (6 + 12 * count bs ≤ length bs)
+mask_holds bs m t h = (rw h.1 (blocks_counted bs), omega (arith, (mask_record bs h.0).size))
 
 -- a refusal: the checks gave it
 pub mask_refused : (bs : List ℕ) (r : Refusal) → ReadsMask bs (Err r) → mask_refusal bs ≡ Some r

@@ -11,7 +11,7 @@ use Rattle.model.specs.DashedString.{values}
 use Rattle.model.specs.Size.{uppers}
 use Rattle.model.proofs.Set.{in_none, in_either}
 use Rattle.bitset.proofs.Laws.{some_from_lem}
-use Rattle.records.specs.declared.Totals.{Totals}
+use Rattle.records.specs.declared.totals.Totals.{Totals}
 use Rattle.records.specs.Check.{some}
 use Rattle.records.specs.Mask.{crossed, blocks_refusal, with_letters, read_blocks, foreign}
 use Rattle.records.specs.Gathered.{with_block}

@@ -7,7 +7,7 @@ use Rattle.model.specs.Refusal.{accepted, refuse, unless}
 use Rattle.model.specs.Set.{either, some_from}
 use Rattle.model.specs.DashedString.{block}
 use Rattle.model.specs.Size.{uppers}
-use Rattle.records.specs.declared.Totals.{Totals}
+use Rattle.records.specs.declared.totals.Totals.{Totals}
 use Rattle.records.specs.Bytes.{number_at}
 use Rattle.records.specs.Check.{some, kind, unframed}
 

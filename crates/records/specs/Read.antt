@@ -8,6 +8,7 @@ use Rattle.model.specs.Automaton as spec
 use Rattle.records.specs.declared.table.Table.{Table}
 use Rattle.records.specs.declared.book.Book.{Book}
 use Rattle.records.specs.declared.mask.Mask.{Mask}
+use Rattle.records.specs.declared.totals.Totals.{Totals}
 use Rattle.records.specs.Book.{table_of, book_of, book_refusal}
 use Rattle.records.specs.Mask.{mask_of, mask_refusal, totals_of}
 
@@ -28,7 +29,7 @@ abbrev pub ReadsBook : List ℕ → Result Book Refusal → Type 0
 ReadsBook bs (Ok b) = (book_refusal bs ≡ accepted) × (automaton b ≡ book_of bs)
 ReadsBook bs (Err r) = book_refusal bs ≡ Some r
 
--- what reading a slice of bytes as a mask answers: a mask of these bytes with the totals of its blocks, or its refusal
-abbrev pub ReadsMask : List ℕ → Result Mask Refusal → Type 0
-ReadsMask bs (Ok m) = (mask_refusal bs ≡ accepted) × (m.bytes.now ≡ bs) × (m.totals ≡ totals_of (mask_of bs))
+-- what reading a slice of bytes as a mask answers: a mask of these bytes and the totals of its blocks, or its refusal
+abbrev pub ReadsMask : List ℕ → Result (Mask × Totals) Refusal → Type 0
+ReadsMask bs (Ok (m, t)) = (mask_refusal bs ≡ accepted) × (m.bytes.now ≡ bs) × (t ≡ totals_of (mask_of bs))
 ReadsMask bs (Err r) = mask_refusal bs ≡ Some r

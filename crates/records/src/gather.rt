@@ -18,7 +18,7 @@ fn with_block(totals: Totals, block: Block) -> Result<Totals, Refusal>
         return Err(Refusal::Crossed);
     }
     Ok(Totals {
-        uppers: totals.uppers + block.upper as usize,
+        uppers: totals.uppers + usize::from(block.upper),
         used: bitset::union(totals.used, block.base),
     })
 }

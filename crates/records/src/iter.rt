@@ -1,39 +1,37 @@
 // An iterator over the blocks of a mask, from the first on.
-ghost use Rattle.std.specs.Prelude.{◌≡◌, ◌+◌, ◌*◌, ◌≤◌, List, length};
+ghost use Rattle.std.specs.Prelude.{◌≡◌, ◌+◌, ◌*◌, ◌/◌, ◌≤◌, List, length};
 ghost use Rattle.std.specs.Iterator.{YieldsFirst, item_count};
 ghost use Rattle.model.specs.declared.Block.{Block};
 ghost use Rattle.records.specs.Mask.{count, blocks_from, mask_of};
 
 use crate::block::block_from;
-use crate::number;
+use crate::frame::count_field;
 use model::Block;
 use std::marker::Model;
 
-// The blocks that are still to come: so many, from byte `at` of the record on.
+// The blocks that are still to come: those in the bytes that are left.
 #[derive(Drop)]
 pub struct Blocks<'a> {
-    bytes: &'a [u8],
-    at: usize,
-    left: usize,
+    rest: &'a [u8],
 }
 
 impl<'a> Model for Blocks<'a> {
     ghost Value = { List Block };
 
-    ghost view = { λ s. blocks_from s.left s.bytes.now s.at };
-
-    ghost invariant = { λ s. s.at + 12 * s.left ≤ length s.bytes.now };
+    ghost view = { λ s. blocks_from (length s.rest.now / 12) s.rest.now 0 };
 }
 
 impl<'a> Blocks<'a> {
     // All blocks of a mask.
-    #[tactic(auto, unfolding(crate::specs::Mask::mask_of))]
+    #[tactic(auto, using(crate::proofs::Offsets::blocks_behind_head))]
     pub(crate) fn of(bytes: &'a [u8]) -> Blocks<'a>
         requires { 6 + 12 * count bytes.now ≤ length bytes.now }
         ensures { result ≡ mask_of bytes.now }
     {
-        let left = number::read(bytes, 4, 2) as usize;
-        Blocks { bytes, at: 6, left }
+        let end = 6 + 12 * count_field(bytes);
+        Blocks {
+            rest: &bytes[6..end],
+        }
     }
 }
 
@@ -46,12 +44,8 @@ impl<'a> Iterator for Blocks<'a> {
 
     #[tactic(auto, using(crate::proofs::Offsets::no_block, crate::proofs::Offsets::first_block))]
     fn next(&mut self) -> Option<Block> {
-        if self.left == 0 {
-            return None;
-        }
-        let block = block_from(self.bytes, self.at);
-        self.at += 12;
-        self.left -= 1;
-        Some(block)
+        let (bytes, rest) = self.rest.split_at_checked(12)?;
+        self.rest = rest;
+        Some(block_from(bytes, 0))
     }
 }

@@ -4,9 +4,8 @@
 
 ghost use Rattle.std.specs.Prelude.{◌≡◌, ◌+◌, ◌*◌, ◌≤◌, length};
 ghost use Rattle.std.proofs.lemmas.List.Edits.{sets};
-ghost use Rattle.model.specs.Set.{some_from};
 ghost use Rattle.records.specs.Bytes.{over};
-ghost use Rattle.records.specs.Mask.{count, mask_of, read_blocks};
+ghost use Rattle.records.specs.Mask.{read_blocks};
 ghost use Rattle.records.specs.Written.{head_bytes, mask_bytes};
 ghost use Rattle.records.specs.Read.{ReadsBook, ReadsMask};
 
@@ -20,6 +19,7 @@ mod mask;
 mod moves;
 mod number;
 mod table;
+mod totals;
 mod writer;
 
 pub use book::Book;
@@ -29,21 +29,15 @@ pub use iter::Blocks;
 pub use mask::Mask;
 use model::{Block, Refusal};
 pub use table::Table;
+pub use totals::Totals;
 pub use writer::write_block;
-
-// The totals of a mask's blocks: the sum of their upper bounds, and the letters that some set has.
-#[derive(Clone, Copy)]
-pub struct Totals {
-    pub uppers: usize,
-    pub used: u64,
-}
 
 // A slice as a book, or the first book check that fails.
 #[tactic(auto, using(crate::proofs::Checks::framing, crate::proofs::Checks::few_states, crate::proofs::Checks::start_named, crate::proofs::Checks::few_moves, crate::proofs::Over::part_rest), unfolding(model::specs::Refusal::refuse, crate::specs::Book::book_checks, crate::specs::Check::frame_refusal, crate::specs::Book::moves_of))]
 pub fn read_book<'a>(bytes: &'a [u8]) -> Result<Book<'a>, Refusal>
     ensures { ReadsBook bytes.now result }
 {
-    frame::check(bytes, Kind::Book, 15)?;
+    frame::check(bytes, Kind::Book)?;
     let head = automaton::read_head(bytes);
     if automaton::out_of_range(head) {
         return Err(Refusal::OutOfRange);
@@ -67,13 +61,13 @@ pub fn read_book<'a>(bytes: &'a [u8]) -> Result<Book<'a>, Refusal>
     })
 }
 
-// A slice as a mask, or the first mask check that fails.
+// A slice as a mask, with the totals of its blocks, or the first mask check that fails.
 #[tactic(auto, using(crate::proofs::Checks::framing), unfolding(model::specs::Refusal::refuse, crate::specs::Mask::mask_refusal, crate::specs::Check::frame_refusal))]
-pub fn read_mask<'a>(bytes: &'a [u8]) -> Result<Mask<'a>, Refusal>
+pub fn read_mask<'a>(bytes: &'a [u8]) -> Result<(Mask<'a>, Totals), Refusal>
     ensures { ReadsMask bytes.now result }
 {
-    frame::check(bytes, Kind::Mask, 6)?;
-    let count = number::read(bytes, 4, 2) as usize;
+    frame::check(bytes, Kind::Mask)?;
+    let count = frame::count_field(bytes);
     if 1024 < count {
         return Err(Refusal::OutOfRange);
     }
@@ -81,7 +75,7 @@ pub fn read_mask<'a>(bytes: &'a [u8]) -> Result<Mask<'a>, Refusal>
         return Err(Refusal::Size);
     }
     let totals = gather::totals_of(count, |i| block::block_behind(bytes, i))?;
-    Ok(Mask { bytes, totals })
+    Ok((Mask { bytes }, totals))
 }
 
 // The totals of blocks, or the first check that fails: 7 and 8.
@@ -90,21 +84,6 @@ pub fn check_blocks(blocks: &[Block]) -> Result<Totals, Refusal>
     ensures { result ≡ read_blocks blocks.now }
 {
     gather::totals_of(blocks.len(), |i| blocks[i])
-}
-
-// The blocks of a mask's record, from the first on.
-pub fn blocks<'a>(bytes: &'a [u8]) -> Blocks<'a>
-    requires { 6 + 12 * count bytes.now ≤ length bytes.now }
-    ensures { result ≡ mask_of bytes.now }
-{
-    Blocks::of(bytes)
-}
-
-// Check 9: whether some set of a mask has a letter that is `letters` or above.
-pub fn some_foreign(totals: Totals, letters: usize) -> bool
-    ensures { result ≡ some_from totals.used letters }
-{
-    bitset::some_from(totals.used, letters)
 }
 
 // Writes the six head bytes of a mask of `count` blocks over the first bytes of `out`.

@@ -4,14 +4,13 @@ ghost use Rattle.model.specs.DashedString.{block_at};
 ghost use Rattle.records.specs.Mask.{count};
 
 use crate::block::block_behind;
-use crate::{Blocks, Totals, number};
+use crate::{Blocks, frame};
 use model::Block;
 
 // The record holds as many blocks as it says.
 #[derive(Clone, Copy)]
 pub struct Mask<'a> {
     pub bytes: &'a [u8],
-    pub totals: Totals,
     pub ghost whole: { 6 + 12 * count bytes.now ≤ length bytes.now },
 }
 
@@ -23,7 +22,7 @@ impl<'a> Mask<'a> {
     pub fn len(self) -> usize
         ensures { result ≡ length (blocks_of self.entry) }
     {
-        number::read(self.bytes, 4, 2) as usize
+        frame::count_field(self.bytes)
     }
 
     // Block `i`, from 0.

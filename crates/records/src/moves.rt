@@ -5,13 +5,12 @@ ghost use Rattle.records.specs.Book.{stray};
 
 // Whether some move names no state, and isn't 255. What is kept is the greatest move plus 1, where 255 plus 1 is 0: the compiler
 // then takes many moves at a time.
-#[tactic(auto, using(crate::proofs::Walk::most_passes, crate::proofs::Walk::stray_above), unfolding(crate::specs::Check::some))]
 pub(crate) fn some_stray(states: usize, moves: &[u8]) -> bool
     ensures { result ≡ some (stray states) moves.now }
 {
-    let mut most = 0;
-    for to in moves {
-        most = to.wrapping_add(1).max(most);
-    }
-    states < usize::from(most)
+    moves
+        .iter()
+        .map(|to| to.wrapping_add(1))
+        .max()
+        .is_some_and(|most| states < usize::from(most))
 }

@@ -1,4 +1,4 @@
-// Totals in bytes, the least byte first.
+// Numbers in bytes, the least byte first.
 ghost use Rattle.std.specs.Prelude.{◌≡◌, ◌+◌, ◌^◌, ◌<◌, ◌≤◌, length};
 ghost use Rattle.std.proofs.lemmas.List.Edits.{sets};
 ghost use Rattle.records.specs.Bytes.{number_at, bytes_of};

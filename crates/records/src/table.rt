@@ -1,6 +1,6 @@
 // The moves of a book.
 ghost use Rattle.std.specs.Prelude.{◌≡◌, ◌*◌, ◌<◌, ◌≤◌, length};
-ghost use Rattle.model.specs.Automaton as automaton;
+ghost use Rattle.model.specs.Automaton as spec;
 
 // So many states and letters, and a move for each state and letter, state by state.
 #[derive(Clone, Copy)]
@@ -18,13 +18,8 @@ impl<'a> Table<'a> {
     #[tactic(auto, using(crate::proofs::Next::next_names, crate::proofs::Next::next_dead))]
     pub fn next(self, q: usize, c: usize) -> usize
         requires { (q < self.states) × (c < self.letters) }
-        ensures { result ≡ automaton.next (table self.entry) q c }
+        ensures { result ≡ spec.next (table self.entry) q c }
     {
-        let state = usize::from(self.moves[q * self.letters + c]);
-        if state < self.states {
-            state
-        } else {
-            self.states
-        }
+        usize::from(self.moves[q * self.letters + c]).min(self.states)
     }
 }

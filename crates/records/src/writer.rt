@@ -14,8 +14,8 @@ pub fn write_block(out: &mut [u8], at: usize, block: Block)
     ensures { out.new ≡ sets out.old at (block_bytes block) }
 {
     number::write(out, at, 8, block.base);
-    number::write(out, at + 8, 2, block.lower as u64);
-    number::write(out, at + 10, 2, block.upper as u64);
+    number::write(out, at + 8, 2, u64::from(block.lower));
+    number::write(out, at + 10, 2, u64::from(block.upper));
 }
 
 // Writes blocks over the first bytes of `out`.
@@ -24,7 +24,7 @@ pub(crate) fn write_blocks(blocks: &[Block], out: &mut [u8])
     requires { 12 * length blocks.now ≤ length out.old }
     ensures { out.new ≡ over (blocks_bytes blocks.now) out.old }
 {
-    for i in 0..blocks.len() {
-        write_block(out, 12 * i, blocks[i]);
+    for (i, block) in blocks.iter().enumerate() {
+        write_block(out, 12 * i, *block);
     }
 }

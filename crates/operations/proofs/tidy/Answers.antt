@@ -11,7 +11,7 @@ returns-in_err-mask c =
 
 pub write_tidied-requires : goal.write_tidied-requires
 write_tidied-requires c =
-    mask_fits _ c.in_ok-mask.mask (λ i. omega (arith, c.type_inv.mask i)) (rw c.in_ok-mask.was at c.read_mask.ensures)
+    mask_fits _ c.in_ok-mask.mask _ (λ i. omega (arith, c.type_inv.mask i)) (rw c.in_ok-mask.was at c.read_mask.ensures)
 
 pub returns : goal.returns
 returns c =

@@ -13,7 +13,7 @@ pub returns-in_err-totals : goal.returns-in_err-totals
 unfolding read_blocks
 returns-in_err-totals c =
     let bs = c.args.bytes.now in
-    let counted : c.read-count.result ≡ count bs = c.read-count.ensures.0 in
+    let counted : c.count_field-count.result ≡ count bs = c.count_field-count.ensures in
     let checked = rw (counted, record_values bs) at (c.totals_of.ensures (block_at (mask_of bs)) (λ i x h p. search (rules, block_of_mask bs i (omega (arith, h, counted))))) in
     let (frame, two, long) = framed 2 6 bs _ _ (sym c.check.ensures ∙ c.in_ok-check.was) in
     let p = err_from_is_err_and c.from_residual-in_err-totals.result c.from_residual-in_err-totals.ensures.1 in
@@ -23,7 +23,7 @@ pub returns : goal.returns
 unfolding read_blocks
 returns c =
     let bs = c.args.bytes.now in
-    let counted : c.read-count.result ≡ count bs = c.read-count.ensures.0 in
+    let counted : c.count_field-count.result ≡ count bs = c.count_field-count.ensures in
     let checked = rw (counted, record_values bs) at (c.totals_of.ensures (block_at (mask_of bs)) (λ i x h p. search (rules, block_of_mask bs i (omega (arith, h, counted))))) in
     let (frame, two, long) = framed 2 6 bs _ _ (sym c.check.ensures ∙ c.in_ok-check.was) in
     let (none, same) = unless_ok _ _ _ (sym checked ∙ c.in_ok-totals.was) in

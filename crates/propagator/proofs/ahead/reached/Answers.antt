@@ -1,21 +1,17 @@
 -- `propagator::ahead::reached` meets its contract.
-use mathlib.Core.Path.{refl, ◌∙◌}
+use mathlib.Core.Path.{◌∙◌}
 use native.Mathlib.Omega.{arith}
-use borrow.Author.Rules.{rules}
-use Rattle.propagator.proofs.Rounds.{reaching_starts, reaching_stops, reaching_more}
+use Rattle.propagator.proofs.Rounds.{reaching_stops, reaching_more}
 use Rattle.propagator.proofs.ahead.reached.Goals as goal
-
-pub loop-init : goal.loop-init
-loop-init c = record { same = refl; reaching = reaching_starts _ _ _ (search rules) }
 
 pub returns-then-front-eq0-clause-value : goal.returns-then-front-eq0-clause-value
 returns-then-front-eq0-clause-value c =
-    reaching_stops _ c.args.steps.now.letters.moves.small _ _ _ _ _ c.loop.invariant.reaching _ _ (rw c.loop.invariant.same at c.step.ensures.value) c.difference-front.ensures _
+    reaching_stops c.args.steps.now.letters.moves.small c.loop.invariant.reaching (rw c.loop.invariant.same at c.step.ensures.value) c.difference-front.ensures _
     c.if-front-eq0.true (omega arith)
 
 pub loop-preserved : goal.loop-preserved
 loop-preserved c =
     record {
       same = c.step.ensures.same ∙ c.loop.invariant.same;
-      reaching = reaching_more _ c.args.steps.now.letters.moves.small _ _ _ _ _ c.loop.invariant.reaching _ _ (rw c.loop.invariant.same at c.step.ensures.value) c.difference-front.ensures _ c.union-all.ensures;
+      reaching = reaching_more c.args.steps.now.letters.moves.small c.loop.invariant.reaching (rw c.loop.invariant.same at c.step.ensures.value) c.difference-front.ensures c.union-all.ensures;
     }

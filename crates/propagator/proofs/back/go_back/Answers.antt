@@ -1,35 +1,29 @@
 -- `propagator::back::go_back` meets its contract.
 use Prim.Native.Nat.{◌-◌}
-use mathlib.Core.Path.{refl}
 use native.Mathlib.Omega.{arith}
-use lib.Seq.{length-take-le}
-use Rattle.propagator.proofs.Returning.{part_long, returning_starts, returning_taken, returning_sets, returning_inside, returning_more, returning_ends}
+use Rattle.propagator.proofs.Returning.{part_long, returning_taken, returning_own, returning_more}
 use Rattle.propagator.proofs.back.go_back.Goals as goal
-
-pub loop-i-init : goal.loop-i-init
-loop-i-init c =
-    let size = length-take-le c.args.count c.args.blocks.now (omega (arith, c.requires.size)) in
-    record { room = omega arith; returning = returning_starts _ _ _ _ _ size _ _ refl c.requires.sets c.requires.size c.requires.inside }
 
 pub overflow_sub-row : goal.overflow_sub-row
 overflow_sub-row c =
-    let block = returning_taken _ _ _ _ _ _ _ _ _ _ c.loop-i.invariant.returning (c.loop-i.i - 1) (omega arith) (omega arith) _ c.requires.room in
+    let block = returning_taken c.loop-i.invariant.returning (c.loop-i.i - 1) (omega arith) (omega arith) c.requires.room in
     omega (arith, block.fits, c.sets_of.ensures)
 
 pub overflow_sub-at : goal.overflow_sub-at
 overflow_sub-at c =
-    let block = returning_taken _ _ _ _ _ _ _ _ _ _ c.loop-i.invariant.returning (c.loop-i.i - 1) (omega arith) (omega arith) _ c.requires.room in
+    let block = returning_taken c.loop-i.invariant.returning (c.loop-i.i - 1) (omega arith) (omega arith) c.requires.room in
     omega (arith, block.begins)
 
 pub narrow_block-kept-requires : goal.narrow_block-kept-requires
 narrow_block-kept-requires c =
-    let block = returning_taken _ _ _ _ _ _ _ _ _ _ c.loop-i.invariant.returning (c.loop-i.i - 1) (omega arith) (omega arith) _ c.requires.room in
+    let block = returning_taken c.loop-i.invariant.returning (c.loop-i.i - 1) (omega arith) (omega arith) c.requires.room in
     let (first, sets) = c.split_at.ensures.behind in
+    let (own, inside) = returning_own c.loop-i.invariant.returning (c.loop-i.i - 1) (omega arith) (omega arith) c.requires.room c.sets_of.ensures first sets in
     record {
       formed = (block.formed.letters, block.formed.bounds);
       size = part_long _ _ _ (omega (arith, block.begins)) c.loop-i.invariant.room;
-      sets = returning_sets _ _ _ _ _ _ _ _ _ _ c.loop-i.invariant.returning (c.loop-i.i - 1) (omega arith) (omega arith) _ c.requires.room _ c.sets_of.ensures _ _ first sets;
-      inside = returning_inside _ _ _ _ _ _ _ _ _ _ c.loop-i.invariant.returning (c.loop-i.i - 1) (omega arith) (omega arith) _ c.requires.room _ c.sets_of.ensures _ _ first sets;
+      sets = own;
+      inside = inside;
     }
 
 pub loop-i-preserved : goal.loop-i-preserved
@@ -39,9 +33,6 @@ loop-i-preserved c =
     let made = c.narrow_block-kept.ensures in
     record {
       room = omega arith;
-      returning = returning_more _ _ _ _ _ _ _ _ _ _ c.loop-i.invariant.returning (c.loop-i.i - 1) (omega arith) (omega arith) _ c.requires.room _ c.sets_of.ensures _ _ first sets
-          _ _ _ _ front left (omega arith) made.value made.entries;
+      returning = returning_more c.loop-i.invariant.returning (c.loop-i.i - 1) (omega arith) (omega arith) c.requires.room c.sets_of.ensures first sets
+          front left (omega arith) made.value made.entries;
     }
-
-pub returns : goal.returns
-returns c = returning_ends _ _ _ _ _ _ _ _ _ _ c.loop-i.invariant.returning (omega arith)

@@ -3,7 +3,7 @@ use mathlib.Core.Path.{◌≡◌}
 use native.Mathlib.Omega.{arith}
 use borrow.Author.Rules.{rules}
 use lib.ListN.{length, set, take, length-take, length-set}
-use Rattle.propagator.proofs.Returning.{block_long, block_front, block_within, block_returned, block_made}
+use Rattle.propagator.proofs.Returning.{block_front, block_within, block_returned, block_made}
 use Rattle.propagator.proofs.back.narrow_block.Goals as goal
 use Rattle.propagator.proofs.back.narrow_block.Goals.{After-narrow_optional-optional}
 
@@ -13,9 +13,6 @@ few : (c : After-narrow_optional-optional)
 few c =
     let all = set c.args.entries.now c.args.block.lower c.narrow_optional-optional.result.block in
     omega (arith, c.requires.size, length-take c.args.block.lower all, length-set c.args.entries.now c.args.block.lower c.narrow_optional-optional.result.block)
-
-pub split_at-requires : goal.split_at-requires
-split_at-requires c = block_long _ _ _ _ c.requires.formed.1 c.requires.sets
 
 pub narrow_optional-optional-requires : goal.narrow_optional-optional-requires
 narrow_optional-optional-requires c =

@@ -2,7 +2,7 @@
 use borrow.Author.Rules.{rules}
 use Rattle.std.proofs.lemmas.Iterator.{YieldsList-from_slice}
 use Rattle.std.proofs.lemmas.Iterator.Consumers.{YieldsList-from_copied, max_from_yields_List}
-use Rattle.propagator.proofs.Targets.{some_greatest}
+use Rattle.records.proofs.Walk.{some_greatest}
 use Rattle.propagator.proofs.moving.some_missing.Goals as goal
 
 pub returns : goal.returns

@@ -2,7 +2,7 @@
 use Rattle.std.proofs.Common.{◌≡◌, ◌+◌, Ok, Err, sym, ap, ◌∙◌, le-ltb, lt-ltb, arith}
 use Rattle.std.proofs.lemmas.Result.{err_from_is_err_and}
 use Rattle.model.specs.Refusal.{refuse}
-use Rattle.records.specs.declared.Totals.{Totals}
+use Rattle.records.specs.declared.totals.Totals.{Totals}
 use Rattle.records.specs.Gathered.{with_block}
 use Rattle.records.proofs.Taking.{block_taken, gathered_starts, gathered_more, gathered_crossed, gathered_ends}
 use Rattle.records.proofs.gather.totals_of.Goals as goal

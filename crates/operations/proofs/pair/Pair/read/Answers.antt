@@ -29,7 +29,7 @@ pub invariant_of-result : goal.invariant_of-result
 invariant_of-result c =
     let mask = rw c.in_ok-mask.was at c.read_mask.ensures in
     let (own, _) = unless_ok _ _ _ (sym c.check_letters.ensures ∙ c.in_ok-check_letters.was) in
-    rw mask.1 (record { fits = read_fits _ _ (λ i. omega (arith, c.type_inv.mask i)) mask.0 _ mask.2 own; totals = mask.2 })
+    rw mask.1 (record { fits = read_fits _ _ (λ i. omega (arith, c.type_inv.mask i)) mask.0 _ mask.2 own; summed = mask.2 })
 
 pub returns : goal.returns
 returns c =

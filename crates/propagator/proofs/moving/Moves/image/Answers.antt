@@ -5,14 +5,11 @@ use borrow.Author.Rules.{rules}
 use Rattle.std.proofs.lemmas.Iterator.Consumers.{fold_from_yields_List}
 use Rattle.model.specs.Set.{either}
 use Rattle.model.specs.Automaton.{next}
-use Rattle.bitset.proofs.Going.{in_order, called_with_each}
+use Rattle.bitset.proofs.Going.{in_order}
 use Rattle.bitset.proofs.Listed.{union_listed}
 use Rattle.propagator.specs.Known.{image}
 use Rattle.records.specs.Read.{table}
 use Rattle.propagator.proofs.moving.Moves.image.Goals as goal
-
-pub fold-requires-clause-callable : goal.fold-requires-clause-callable
-fold-requires-clause-callable c = called_with_each _ _ c.members.ensures (λ b x q s. search rules) (λ b x m. search rules)
 
 pub returns : goal.returns
 unfolding image
