@@ -1,12 +1,14 @@
 // The line of a mask, from narrow's answer.
 ghost use Rattle.std.specs.Prelude.{◌≡◌, ◌≤◌, length, take};
 ghost use Rattle.records.specs.Mask.{mask_of};
+ghost use Rattle.records.specs.Read.{blocks_of};
 ghost use Rattle.records.specs.WellFormed.{MaskRecord};
 ghost use Rattle.lines.specs.Line.{verdict_line, mask_line};
 ghost use Rattle.lines.specs.Sums.{Recorded, Sum};
 
 use crate::text::{Line, refused_line, verdict_line};
 use operations::Narrowed;
+use records::Mask;
 
 // How many blocks a mask has, and the sums of their lower and of their upper bounds.
 #[derive(Clone, Copy, Default)]
@@ -18,12 +20,12 @@ pub(crate) struct Sums {
 
 // The sums of a mask's blocks.
 #[tactic(auto, using(records::proofs::Offsets::blocks_counted, crate::proofs::Summing::lowers_few), unfolding(model::specs::Size::lower_sum))]
-fn sums_of(written: &[u8]) -> Sums
-    requires { MaskRecord written.now }
-    ensures { Sum (mask_of written.now) result }
+fn sums_of(mask: Mask) -> Sums
+    requires { MaskRecord mask.bytes.now }
+    ensures { Sum (blocks_of mask.entry) result }
 {
     let mut sums = Sums::default();
-    for block in records::blocks(written) {
+    for block in mask.blocks() {
         sums.blocks += 1;
         sums.lowers += u64::from(block.lower);
         sums.uppers += u64::from(block.upper);
@@ -41,7 +43,7 @@ fn answer_line(number: u64, got: Narrowed, answer: &[u8]) -> Line
     let sums = if written.is_empty() {
         Sums::default()
     } else {
-        sums_of(written)
+        sums_of(Mask { bytes: written })
     };
     verdict_line(number, got.verdict, sums)
 }

@@ -13,8 +13,8 @@ use std::io::Write;
 pub fn mask(out: &mut impl Write, bytes: &[u8]) -> io::Result<()> {
     match records::read_mask(bytes) {
         Err(refusal) => show::refused(out, refusal.number()),
-        Ok(mask) => {
-            write!(out, "mask {} {}", mask.len(), mask.totals.uppers)?;
+        Ok((mask, totals)) => {
+            write!(out, "mask {} {}", mask.len(), totals.uppers)?;
             if mask.len() <= 8 {
                 blocks(out, mask)?;
             }
@@ -31,8 +31,8 @@ pub fn letters(out: &mut impl Write, bytes: &[u8]) -> io::Result<()> {
     };
     match records::read_mask(record) {
         Err(refusal) => show::refused(out, refusal.number()),
-        Ok(mask) => {
-            let foreign = records::some_foreign(mask.totals, usize::from(*least));
+        Ok((_, totals)) => {
+            let foreign = totals.some_foreign(usize::from(*least));
             out.write_all(if foreign { b"9" } else { b"0" })
         }
     }

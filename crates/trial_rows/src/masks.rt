@@ -9,8 +9,8 @@ use std::io::Write;
 pub fn mask(out: &mut impl Write, bytes: &[u8]) -> io::Result<()> {
     match records::read_mask(bytes) {
         Err(_) => out.write_all(b"unreadable answer"),
-        Ok(mask) if mask.len() == 0 => out.write_all(b"no blocks"),
-        Ok(mask) => blocks(out, mask),
+        Ok((mask, _)) if mask.len() == 0 => out.write_all(b"no blocks"),
+        Ok((mask, _)) => blocks(out, mask),
     }
 }
 
