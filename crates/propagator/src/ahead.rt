@@ -67,9 +67,9 @@ fn pass_block(steps: &mut Steps, block: Block, from: u64, sets: &mut [u64]) -> u
     ensures sets { sets.new ≡ stored_by (table steps.old.letters.moves.table) from block }
 {
     steps.turn_to(block.base);
-    let places = block.lower as usize;
+    let places = usize::from(block.lower);
     let last = fill_places(steps, from, &mut sets[..places]);
-    let states = reached(steps, last, (block.upper - block.lower) as usize);
+    let states = reached(steps, last, usize::from(block.upper - block.lower));
     sets[places..].fill(states);
     states
 }
@@ -89,7 +89,7 @@ pub(crate) fn go_ahead(steps: &mut Steps, blocks: &[Block], start: u64, sets: &m
     for block in blocks {
         let end = at + sets_of(*block);
         states = pass_block(steps, *block, states, &mut sets[at..end]);
-        entries += block.lower as usize + 1;
+        entries += usize::from(block.lower) + 1;
         at = end;
     }
     Behind {

@@ -17,6 +17,7 @@ slice_bounds-pass_block-end c =
 pub loop-block-preserved : goal.loop-block-preserved
 loop-block-preserved c =
     let after = c.pass_block-states.ensures in
+    rw c.from.ensures
     record {
       same = after.moves ∙ c.loop-block.invariant.same;
       passing = passing_more _ c.loop-block.invariant.passing (omega arith) c.sets_of.ensures c.requires.room
