@@ -17,7 +17,7 @@ mod optional;
 mod places;
 mod row;
 
-use ahead::{Behind, go_ahead};
+use ahead::Behind;
 use back::go_back;
 use known::Steps;
 use model::Block;
@@ -47,7 +47,7 @@ pub fn pass(book: Book, blocks: &mut [Block], count: usize, sets: &mut [u64]) ->
         states,
         entries,
         stored,
-    } = go_ahead(&mut steps, &blocks[..count], start, sets);
+    } = steps.go_ahead(&blocks[..count], start, sets);
     let end = bitset::intersection(states, book.accepting);
     if end != 0 {
         let row = Row {

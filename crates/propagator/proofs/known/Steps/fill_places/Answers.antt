@@ -1,9 +1,9 @@
--- `propagator::ahead::fill_places` meets its contract.
+-- `propagator::known::Steps::fill_places` meets its contract.
 use mathlib.Core.Path.{◌∙◌}
 use native.Mathlib.Omega.{arith}
 use borrow.Author.Rules.{rules}
 use Rattle.propagator.proofs.Forth.{filling_repeats}
-use Rattle.propagator.proofs.ahead.fill_places.Goals as goal
+use Rattle.propagator.proofs.known.Steps.fill_places.Goals as goal
 
 pub returns-then-next-set : goal.returns-then-next-set
 returns-then-next-set c =

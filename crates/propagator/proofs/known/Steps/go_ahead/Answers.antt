@@ -1,8 +1,8 @@
--- `propagator::ahead::go_ahead` meets its contract.
+-- `propagator::known::Steps::go_ahead` meets its contract.
 use mathlib.Core.Path.{◌∙◌}
 use native.Mathlib.Omega.{arith}
 use Rattle.propagator.proofs.Forth.{passing_fits, passing_more, passing_ends}
-use Rattle.propagator.proofs.ahead.go_ahead.Goals as goal
+use Rattle.propagator.proofs.known.Steps.go_ahead.Goals as goal
 
 pub overflow_add-end : goal.overflow_add-end
 overflow_add-end c =

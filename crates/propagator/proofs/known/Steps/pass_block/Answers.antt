@@ -1,9 +1,9 @@
--- `propagator::ahead::pass_block` meets its contract.
+-- `propagator::known::Steps::pass_block` meets its contract.
 use borrow.Author.Rules.{rules}
 use native.Mathlib.Omega.{arith}
 use lib.ListN.{length-take}
 use Rattle.propagator.proofs.Forth.{block_passed, block_stored}
-use Rattle.propagator.proofs.ahead.pass_block.Goals as goal
+use Rattle.propagator.proofs.known.Steps.pass_block.Goals as goal
 
 pub returns-clause-value : goal.returns-clause-value
 returns-clause-value c =
