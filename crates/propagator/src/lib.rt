@@ -12,6 +12,7 @@ mod back;
 mod images;
 mod known;
 mod letters;
+mod memo;
 mod moving;
 mod optional;
 mod places;
