@@ -28,13 +28,13 @@ impl<'a> Steps<'a> {
         ensures places { places.new ≡ places_of (table self.old.letters.moves.table) self.old.letters.set from (length places.old) }
     {
         let mut set = from;
-        for j in 0..places.len() {
+        for (j, place) in places.iter_mut().enumerate() {
             let next = self.step(set);
             if next == set {
                 places[j..].fill(set);
                 return set;
             }
-            places[j] = next;
+            *place = next;
             set = next;
         }
         set

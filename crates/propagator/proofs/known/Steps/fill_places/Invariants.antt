@@ -6,5 +6,5 @@ use Rattle.propagator.proofs.known.Steps.fill_places.Given as goal
 abbrev pub invariant-loop-j : goal.invariant-loop-j
 invariant-loop-j l = let letters = l.initial.self.letters in record {
   same : l.self.letters ≡ letters;
-  filling : Filling (table letters.moves.table) letters.set l.from l.places l.set l.j;
+  filling : Filling (table letters.moves.table) letters.set l.from l.place-items l.set l.j;
 }
