@@ -4,7 +4,7 @@ use Prim.Native.Nat.{ℕ, ◌^◌, ◌<◌}
 use mathlib.Core.Path.{◌≡◌, refl, sym, ◌∙◌}
 use mathlib.Core.Logic.{⊎_elim}
 use mathlib.Core.Bool.{Bool, true, false}
-use mathlib.Core.List.{List, []}
+use mathlib.Core.List.{[]}
 use borrow.Author.Tests.{eqb-true, eqb-false}
 use lib.Dec.{eqb}
 use lib.ListN.{length, get_or, set}
@@ -18,23 +18,24 @@ use Rattle.bitset.specs.Listed.{listed}
 use Rattle.bitset.proofs.Listed.{joined, union_listed, joined_none, joined_keeps}
 use Rattle.bitset.proofs.Laws.{same_members, in_add}
 use Rattle.propagator.specs.Moves.{Below}
-use Rattle.propagator.specs.Known.{image, Targets, limit}
+use Rattle.propagator.specs.declared.memo.Memo.{Memo}
+use Rattle.propagator.specs.Known.{Remembers, image, Targets, limit}
 use Rattle.propagator.proofs.Leading.{image_bytes, after_bytes}
 use Rattle.propagator.proofs.Targets.{in_limit}
 
--- ---- the numbers f i, which stand as elements i of a list, for each i of a set
+-- ---- what is remembered
 
-module _ (f : ℕ → ℕ) (known : List ℕ) (s : ℕ) (held : (j : ℕ) → Member j s → get_or known j 0 ≡ f j) (i : ℕ) (small : i < 64) where
-  -- one more is known
-  pub held_more : (r all : ℕ) → i < length known → r ≡ f i → all ≡ either s (2 ^ i) → (j : ℕ) → Member j all → get_or (set known i r) j 0 ≡ f j
-  held_more r all here e d j m = ⊎_elim (λ n. old (eqb j i) refl n) (λ o. rw o new) ((in_add s i j small).0 (rw d at m))
+module _ (f : ℕ → ℕ) (m : Memo) (held : Remembers m f) (i : ℕ) (small : i < 64) where
+  -- one number more
+  pub held_more : (r all : ℕ) → i < length m.values → r ≡ f i → all ≡ either m.known (2 ^ i) → Remembers (record { values = set m.values i r; known = all }) f
+  held_more r all here e d j n = ⊎_elim (λ o. old (eqb j i) refl o) (λ o. rw o new) ((in_add m.known i j small).0 (rw d at n))
     where
-      new : get_or (set known i r) i 0 ≡ f i
-      new = get_or-set_same known i r 0 here ∙ e
+      new : get_or (set m.values i r) i 0 ≡ f i
+      new = get_or-set_same m.values i r 0 here ∙ e
 
-      old : (v : Bool) → eqb j i ≡ v → Member j s → get_or (set known i r) j 0 ≡ f j
+      old : (v : Bool) → eqb j i ≡ v → Member j m.known → get_or (set m.values i r) j 0 ≡ f j
       old true o n = rw (eqb-true j i o) new
-      old false o n = get_or-set_other known i j r 0 (eqb-false j i o) ∙ held j n
+      old false o n = get_or-set_other m.values i j r 0 (eqb-false j i o) ∙ held j n
 
 -- ---- the states after one letter from the states of a set
 

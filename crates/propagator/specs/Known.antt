@@ -1,8 +1,13 @@
 -- What the way forward remembers: where one letter leads from a set of states, and the states that moves lead to.
-use Rattle.std.specs.Prelude.{ℕ, ◌-◌, ◌^◌, ◌<◌, cond, leb}
+use Rattle.std.specs.Prelude.{ℕ, ◌-◌, ◌^◌, ◌<◌, ◌≡◌, cond, leb, get_or}
 use Rattle.model.specs.Set.{Member, either, union_of, some_from}
 use Rattle.model.specs.Automaton.{Table, next}
 use Rattle.records.specs.Check.{some}
+use Rattle.propagator.specs.declared.memo.Memo.{Memo}
+
+-- each number that is known is f's
+abbrev pub Remembers : Memo → (ℕ → ℕ) → Type 0
+Remembers m f = (i : ℕ) → Member i m.known → get_or m.values i 0 ≡ f i
 
 -- the states after the letter c from states of Q
 unfoldable pub image : Table → ℕ → ℕ → ℕ

@@ -25,7 +25,7 @@ fn narrow_block(moves: Moves, block: Block, row: Row, end: u64, entries: &mut [B
         moves,
         set: block.base,
     };
-    let count = block.lower as usize;
+    let count = usize::from(block.lower);
     let within = row.set_before(row.sets.len());
     let (places, behind) = row.split_at(count);
     let optional = letters.narrow_optional(block.upper - block.lower, behind.first, within, end);
@@ -55,7 +55,7 @@ pub(crate) fn go_back(moves: Moves, mut row: Row, end: u64, blocks: &mut [Block]
         let block = blocks[i];
         let (front, own) = row.split_at(row.sets.len() - sets_of(block));
         let behind = at;
-        at -= block.lower as usize + 1;
+        at -= usize::from(block.lower) + 1;
         kept = narrow_block(moves, block, own, kept, &mut blocks[at..behind]);
         row = front;
     }

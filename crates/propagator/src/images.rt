@@ -13,12 +13,11 @@ impl<'a> Steps<'a> {
         ensures value { result ≡ image (table self.old.letters.moves.table) self.old.from c }
         ensures same { (self.new.letters ≡ self.old.letters) × (self.new.from ≡ self.old.from) }
     {
-        if bitset::has(self.letters_known, c) {
-            return self.by_letter[c];
+        if let Some(found) = self.by_letter.get(c) {
+            return found;
         }
         let found = self.letters.moves.image(self.from, c);
-        self.by_letter[c] = found;
-        self.letters_known = bitset::add(self.letters_known, c);
+        self.by_letter.put(c, found);
         found
     }
 

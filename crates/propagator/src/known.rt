@@ -1,29 +1,27 @@
 // The states after one letter of a set, from what is worked out once and remembered: the successors of single states while the
 // letters are the same, and the images of single letters (images.rt) while the states are.
-ghost use Rattle.std.specs.Prelude.{◌≡◌, ℕ, ◌<◌, get_or};
-ghost use Rattle.model.specs.Set.{Member};
+ghost use Rattle.std.specs.Prelude.{◌≡◌, ◌<◌};
 ghost use Rattle.model.specs.Passes.{reach, after};
 ghost use Rattle.propagator.specs.Moves.{Below};
 ghost use Rattle.records.specs.Read.{table};
 ghost use Rattle.propagator.specs.Known as spec;
-ghost use Rattle.propagator.specs.Known.{image, Targets};
+ghost use Rattle.propagator.specs.Known.{image, Remembers, Targets};
 
 use crate::letters::Letters;
+use crate::memo::Memo;
 use crate::moving::Moves;
 
-// Element q of `by_state` is what state q reaches by one of the letters, for each q of `states_known`; element c of `by_letter`
-// what the states of `from` reach by letter c, for each c of `letters_known`. `targets` are the states that moves lead to.
+// `by_state` remembers what single states reach by one of the letters, and `by_letter` what the states of `from` reach by single
+// letters. `targets` are the states that moves lead to.
 #[derive(Drop)]
 pub(crate) struct Steps<'a> {
     pub letters: Letters<'a>,
-    pub by_state: [u64; 64],
-    pub states_known: u64,
-    pub by_letter: [u64; 64],
-    pub letters_known: u64,
+    pub by_state: Memo,
+    pub by_letter: Memo,
     pub from: u64,
     pub targets: u64,
-    pub ghost states: { (q : ℕ) → Member q states_known → get_or by_state q 0 ≡ reach (table letters.moves.table) letters.set q },
-    pub ghost images: { (c : ℕ) → Member c letters_known → get_or by_letter c 0 ≡ image (table letters.moves.table) from c },
+    pub ghost states: { Remembers by_state (reach (table letters.moves.table) letters.set) },
+    pub ghost images: { Remembers by_letter (image (table letters.moves.table) from) },
     pub ghost bounds: { Targets (table letters.moves.table) targets },
 }
 
@@ -36,10 +34,8 @@ impl<'a> Steps<'a> {
     {
         Steps {
             letters: Letters { moves, set: 0 },
-            by_state: [0; 64],
-            states_known: 0,
-            by_letter: [0; 64],
-            letters_known: 0,
+            by_state: Memo::new(),
+            by_letter: Memo::new(),
             from: 0,
             targets: moves.targets(),
         }
@@ -53,7 +49,7 @@ impl<'a> Steps<'a> {
         ensures moves { self.new.letters.moves ≡ self.old.letters.moves }
     {
         if self.letters.set != set {
-            self.states_known = 0;
+            self.by_state.forget();
             self.letters = Letters {
                 moves: self.letters.moves,
                 set,
@@ -67,12 +63,11 @@ impl<'a> Steps<'a> {
         ensures value { result ≡ reach (table self.old.letters.moves.table) self.old.letters.set q }
         ensures same { self.new.letters ≡ self.old.letters }
     {
-        if bitset::has(self.states_known, q) {
-            return self.by_state[q];
+        if let Some(found) = self.by_state.get(q) {
+            return found;
         }
         let found = self.letters.successors(q);
-        self.by_state[q] = found;
-        self.states_known = bitset::add(self.states_known, q);
+        self.by_state.put(q, found);
         found
     }
 
@@ -114,7 +109,7 @@ impl<'a> Steps<'a> {
         if self.from == from {
             return self.step_by_letters();
         }
-        self.letters_known = 0;
+        self.by_letter.forget();
         self.from = from;
         self.step_by_states(from)
     }

@@ -12,12 +12,13 @@ mod back;
 mod images;
 mod known;
 mod letters;
+mod memo;
 mod moving;
 mod optional;
 mod places;
 mod row;
 
-use ahead::{Behind, go_ahead};
+use ahead::Behind;
 use back::go_back;
 use known::Steps;
 use model::Block;
@@ -47,7 +48,7 @@ pub fn pass(book: Book, blocks: &mut [Block], count: usize, sets: &mut [u64]) ->
         states,
         entries,
         stored,
-    } = go_ahead(&mut steps, &blocks[..count], start, sets);
+    } = steps.go_ahead(&blocks[..count], start, sets);
     let end = bitset::intersection(states, book.accepting);
     if end != 0 {
         let row = Row {

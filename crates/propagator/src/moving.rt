@@ -59,5 +59,5 @@ fn some_missing(states: usize, moves: &[u8]) -> bool
         .iter()
         .copied()
         .max()
-        .is_some_and(|most| states <= most as usize)
+        .is_some_and(|most| states <= usize::from(most))
 }

@@ -42,5 +42,5 @@ impl<'a> Row<'a> {
 pub(crate) fn sets_of(block: Block) -> usize
     ensures { result ≡ sets_of block }
 {
-    (block.upper as usize).min(block.lower as usize + 1)
+    usize::from(block.upper).min(usize::from(block.lower) + 1)
 }

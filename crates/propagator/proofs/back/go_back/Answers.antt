@@ -9,6 +9,11 @@ overflow_sub-row c =
     let block = returning_taken c.loop-i.invariant.returning (c.loop-i.i - 1) (omega arith) (omega arith) c.requires.room in
     omega (arith, block.fits, c.sets_of.ensures)
 
+pub overflow_add-at : goal.overflow_add-at
+overflow_add-at c =
+    let block = returning_taken c.loop-i.invariant.returning (c.loop-i.i - 1) (omega arith) (omega arith) c.requires.room in
+    omega (arith, block.begins)
+
 pub overflow_sub-at : goal.overflow_sub-at
 overflow_sub-at c =
     let block = returning_taken c.loop-i.invariant.returning (c.loop-i.i - 1) (omega arith) (omega arith) c.requires.room in
@@ -19,6 +24,7 @@ narrow_block-kept-requires c =
     let block = returning_taken c.loop-i.invariant.returning (c.loop-i.i - 1) (omega arith) (omega arith) c.requires.room in
     let (first, sets) = c.split_at.ensures.behind in
     let (own, inside) = returning_own c.loop-i.invariant.returning (c.loop-i.i - 1) (omega arith) (omega arith) c.requires.room c.sets_of.ensures first sets in
+    rw c.from.ensures
     record {
       formed = (block.formed.letters, block.formed.bounds);
       size = part_long _ _ _ (omega (arith, block.begins)) c.loop-i.invariant.room;
@@ -33,6 +39,6 @@ loop-i-preserved c =
     let made = c.narrow_block-kept.ensures in
     record {
       room = omega arith;
-      returning = returning_more c.loop-i.invariant.returning (c.loop-i.i - 1) (omega arith) (omega arith) c.requires.room c.sets_of.ensures first sets
-          front left (omega arith) made.value made.entries;
+      returning = rw c.from.ensures (returning_more c.loop-i.invariant.returning (c.loop-i.i - 1) (omega arith) (omega arith) c.requires.room c.sets_of.ensures first sets
+          front left (omega arith) made.value made.entries);
     }

@@ -1,8 +1,8 @@
--- `propagator::ahead::go_ahead` meets its contract.
+-- `propagator::known::Steps::go_ahead` meets its contract.
 use mathlib.Core.Path.{◌∙◌}
 use native.Mathlib.Omega.{arith}
 use Rattle.propagator.proofs.Forth.{passing_fits, passing_more, passing_ends}
-use Rattle.propagator.proofs.ahead.go_ahead.Goals as goal
+use Rattle.propagator.proofs.known.Steps.go_ahead.Goals as goal
 
 pub overflow_add-end : goal.overflow_add-end
 overflow_add-end c =
@@ -17,6 +17,7 @@ slice_bounds-pass_block-end c =
 pub loop-block-preserved : goal.loop-block-preserved
 loop-block-preserved c =
     let after = c.pass_block-states.ensures in
+    rw c.from.ensures
     record {
       same = after.moves ∙ c.loop-block.invariant.same;
       passing = passing_more _ c.loop-block.invariant.passing (omega arith) c.sets_of.ensures c.requires.room
