@@ -2,6 +2,7 @@
 -- Assumes nothing.
 use Rattle.std.proofs.Common.{◌≡◌, ℕ, false, ◌+◌, ◌^◌, ◌≤◌, ◌<◌, Some, Result, Ok, Err, List, [], ◌∷◌, ◌++◌, length, take, drop, ap, refl, ◌∙◌, arith, length-append, length-drop, lt-ltb, le-ltb}
 use Rattle.std.proofs.lemmas.Nat.{le_or_l, le_or_r}
+use lib.Seq.{take_at}
 use Rattle.model.specs.declared.Block.{Block}
 use Rattle.model.specs.declared.Refusal.{Refusal}
 use Rattle.model.specs.declared.Refusal.TheVariants.{OutOfRange, Foreign}
@@ -21,7 +22,6 @@ use Rattle.operations.specs.declared.Narrowed.{Narrowed}
 use Rattle.operations.specs.Pair.{list_refusal, from_list, given_refusal}
 use Rattle.operations.specs.Narrow.{Narrows, NarrowsGiven}
 use Rattle.operations.proofs.Pairs.{refused_book, refused_mask, letters_decide}
-use Rattle.operations.proofs.Passing.{first_copied}
 use Rattle.operations.proofs.NarrowPromise.{narrow_refused}
 
 -- the letters that some set has are a number of 8 bytes, and so each set is
@@ -64,7 +64,7 @@ module _ (bs : List ℕ) (xs : List Block) (few : length xs ≤ 1024) (b : Book)
       -- it is copied into the first entries of a room
       module _ (copy rest : List Block) (copied : copy ≡ xs) where
         first_blocks : take (length xs) (copy ++ rest) ≡ xs
-        first_blocks = first_copied xs copy rest copied (length xs) refl
+        first_blocks = rw copied (take_at xs rest (length xs) refl)
 
         -- these are ready for the passes too
         pub copy_ready : Fits b.table.letters (take (length xs) (copy ++ rest))

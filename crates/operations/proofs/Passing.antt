@@ -23,10 +23,6 @@ use Rattle.propagator.proofs.Stored.{stored_uppers}
 pub passes_fit : (m : ℕ) (xs : List Block) → Fits m xs → (lower_sum xs ≤ uppers xs) × (stored_sum xs ≤ uppers xs)
 passes_fit m xs fits = (sum_uppers xs (each_map (WellFormed m) Bounded (λ x f. f.bounds) xs fits.room.each), stored_uppers xs)
 
--- blocks that are copied into the first entries of a room are there
-pub first_copied : (xs copy rest : List Block) → copy ≡ xs → (k : ℕ) → k ≡ length xs → take k (copy ++ rest) ≡ xs
-first_copied xs copy rest copied k counted = rw copied (take_at xs rest k (sym counted))
-
 -- no code is legal, or some is, by the states among those found that accept
 pub found_legal : (d : Dfa) (xs : List Block) (s : ℕ) → s < 2 ^ 64 → s ≡ finals d xs → (r : ℕ) → r ≡ both s d.accepting
     → ((r ≡ 0) → some_legal d xs ≡ false) × (¬ (r ≡ 0) → some_legal d xs ≡ true)

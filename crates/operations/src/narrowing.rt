@@ -92,6 +92,6 @@ pub(crate) fn narrow_sized<const MOST: usize, const ROOM: usize>(
     let mut blocks = [Block::EMPTY; ROOM];
     let mut sets = [0u64; MOST];
     let count = pair.mask.len();
-    pair.mask.copy_to(&mut blocks[..count]);
+    pair.mask.copy_to(&mut blocks);
     narrow_blocks(pair.book, &mut blocks, count, &mut sets, out)
 }

@@ -68,7 +68,7 @@ fn place_sized<const MOST: usize, const ROOM: usize>(pair: Pair, entry: usize) -
     let mut blocks = [Block::EMPTY; ROOM];
     let mut sets = [0u64; MOST];
     let count = pair.mask.len();
-    pair.mask.copy_to(&mut blocks[..count]);
+    pair.mask.copy_to(&mut blocks);
     let passed = propagator::pass(pair.book, &mut blocks, count, &mut sets);
     if bitset::intersection(passed.states, pair.book.accepting) == 0 {
         return Block::EMPTY;

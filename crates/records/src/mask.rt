@@ -1,5 +1,5 @@
 // A mask, in the bytes of its record.
-ghost use Rattle.std.specs.Prelude.{◌≡◌, ◌+◌, ◌*◌, ◌<◌, ◌≤◌, length};
+ghost use Rattle.std.specs.Prelude.{◌≡◌, ◌+◌, ◌*◌, ◌<◌, ◌≤◌, length, take, drop};
 ghost use Rattle.model.specs.DashedString.{block_at};
 ghost use Rattle.records.specs.Mask.{count};
 
@@ -41,12 +41,14 @@ impl<'a> Mask<'a> {
         Blocks::of(self.bytes)
     }
 
-    // Copies its blocks into a slice of as many.
+    // Copies its blocks over the first entries of a slice.
     pub fn copy_to(self, blocks: &mut [Block])
-        requires { length blocks.old ≡ length (blocks_of self) }
-        ensures { blocks.new ≡ blocks_of self.entry }
+        requires { length (blocks_of self) ≤ length blocks.old }
+        ensures copied { take (length (blocks_of self.entry)) blocks.new ≡ blocks_of self.entry }
+        ensures rest { drop (length (blocks_of self.entry)) blocks.new ≡ drop (length (blocks_of self.entry)) blocks.old }
+        ensures size { length blocks.new ≡ length blocks.old }
     {
-        for i in 0..blocks.len() {
+        for i in 0..self.len() {
             blocks[i] = self.block(i);
         }
     }
