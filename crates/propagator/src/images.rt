@@ -13,12 +13,8 @@ impl<'a> Steps<'a> {
         ensures value { result ≡ image (table self.old.letters.moves.table) self.old.from c }
         ensures same { (self.new.letters ≡ self.old.letters) × (self.new.from ≡ self.old.from) }
     {
-        if let Some(found) = self.by_letter.get(c) {
-            return found;
-        }
-        let found = self.letters.moves.image(self.from, c);
-        self.by_letter.put(c, found);
-        found
+        let (moves, from) = (self.letters.moves, self.from);
+        self.by_letter.recall(c, |c| moves.image(from, c))
     }
 
     // The states after one of the letters.

@@ -63,12 +63,8 @@ impl<'a> Steps<'a> {
         ensures value { result ≡ reach (table self.old.letters.moves.table) self.old.letters.set q }
         ensures same { self.new.letters ≡ self.old.letters }
     {
-        if let Some(found) = self.by_state.get(q) {
-            return found;
-        }
-        let found = self.letters.successors(q);
-        self.by_state.put(q, found);
-        found
+        let letters = self.letters;
+        self.by_state.recall(q, |q| letters.successors(q))
     }
 
     // The states that one letter can lead to from states of `from`.

@@ -1,5 +1,5 @@
 // Numbers that were worked out once, each for an index below 64.
-ghost use Rattle.std.specs.Prelude.{◌≡◌, ℕ, ◌<◌, IfSome};
+ghost use Rattle.std.specs.Prelude.{◌≡◌, ℕ, ◌<◌};
 ghost use Rattle.propagator.specs.Known.{Remembers};
 
 // Element i of `values` is what was worked out for i, for each i of `known`.
@@ -20,25 +20,19 @@ impl Memo {
         }
     }
 
-    // The number of `i`, where it is known.
-    pub(crate) fn get(&self, i: usize) -> Option<u64>
-        requires { i < 64 }
-        ensures { (f : ℕ → ℕ) → Remembers self.now f → IfSome result (λ value. value ≡ f i) }
+    // The number of `i`, which `make` works out where it is not known.
+    pub(crate) fn recall<F: Fn(usize) -> u64>(&mut self, i: usize, make: F) -> u64
+        requires index { i < 64 }
+        requires callable { F.pre make i }
+        ensures { (f : ℕ → ℕ) → Remembers self.old f → ((x : ℕ) → F.post make i x → x ≡ f i) → (result ≡ f i) × Remembers self.new f }
     {
         if bitset::has(self.known, i) {
-            Some(self.values[i])
-        } else {
-            None
+            return self.values[i];
         }
-    }
-
-    // The number of `i` is `value`.
-    pub(crate) fn put(&mut self, i: usize, value: u64)
-        requires { i < 64 }
-        ensures { (f : ℕ → ℕ) → Remembers self.old f → value ≡ f i → Remembers self.new f }
-    {
-        self.values[i] = value;
+        let found = make(i);
+        self.values[i] = found;
         self.known = bitset::add(self.known, i);
+        found
     }
 
     // Nothing is known any more.
