@@ -36,6 +36,9 @@ pub fn shift(bytes: &mut [u8], taken: usize, held: usize) -> usize
     requires { (taken ≤ held) × (held ≤ length bytes.old) }
     ensures { (result ≡ held - taken) × (take result bytes.new ≡ drop taken (take held bytes.old)) }
 {
+    if taken == 0 {
+        return held;
+    }
     bytes.copy_within(taken..held, 0);
     held - taken
 }
