@@ -75,7 +75,9 @@ impl<'a> Steps<'a> {
         states
     }
 
-    // Goes through the blocks and stores their sets one after another. `start` is the first block's Q0.
+    // Goes through the blocks and stores their sets one after another. `start` is the first block's Q0. Kept apart from the way
+    // back: in one function the compiler has too few registers for both.
+    #[inline(never)]
     #[tactic(auto, using(crate::proofs::Rows::sum_small, crate::proofs::Forth::passing_fits))]
     pub(crate) fn go_ahead(&mut self, blocks: &[Block], start: u64, sets: &mut [u64]) -> Behind
         requires room { Room self.old.letters.moves.table.letters blocks.now }

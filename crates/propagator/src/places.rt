@@ -20,7 +20,9 @@ pub(crate) struct Kept {
 
 impl<'a> Letters<'a> {
     // The letters by which some move goes from a state of `from` to a state of `end`, and those former states. Of each
-    // state the letters not yet kept are looked at; where none leads to `end`, one kept letter that does keeps the state.
+    // state the letters not yet kept are looked at; where none leads to `end`, one kept letter that does keeps the state. Put in
+    // the place of each call, as a call hands all that it is given on in memory, which costs more than the work of a small book.
+    #[inline(always)]
     #[tactic(auto, using(bitset::proofs::Laws::in_difference, crate::proofs::Gathering::comes_small))]
     pub(crate) fn narrow_place(self, from: u64, end: u64) -> Kept
         ensures { (result.from ≡ from) × (result.to ≡ end) × Becomes (table self.entry.moves.table) self.entry.set from end result }
