@@ -8,11 +8,14 @@ use std::io::Write;
 pub fn book(out: &mut impl Write, bytes: &[u8]) -> io::Result<()> {
     match records::read_book(bytes) {
         Err(refusal) => show::refused(out, refusal.number()),
-        Ok(book) => write!(
-            out,
-            "book {} {} {} {}",
-            book.table.states, book.table.letters, book.start, book.accepting
-        ),
+        Ok(book) => {
+            out.write_all(b"book")?;
+            write!(
+                out,
+                " {} {} {} {}",
+                book.table.states, book.table.letters, book.start, book.accepting
+            )
+        }
     }
 }
 

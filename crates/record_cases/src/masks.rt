@@ -14,12 +14,16 @@ pub fn mask(out: &mut impl Write, bytes: &[u8]) -> io::Result<()> {
     match records::read_mask(bytes) {
         Err(refusal) => show::refused(out, refusal.number()),
         Ok((mask, totals)) => {
-            write!(out, "mask {} {}", mask.len(), totals.uppers)?;
+            out.write_all(b"mask")?;
+            write!(out, " {} {}", mask.len(), totals.uppers)?;
             if mask.len() <= 8 {
                 blocks(out, mask)?;
             }
-            let word = if comes_back(mask) { "same" } else { "differs" };
-            write!(out, " {word}")
+            out.write_all(if comes_back(mask) {
+                b" same"
+            } else {
+                b" differs"
+            })
         }
     }
 }
