@@ -26,7 +26,7 @@ fn read_token(token: &[u8], last: Option<u8>) -> Option<(u8, u32)>
     ensures { IfSome result (λ said. said.1 < 100000) }
 {
     match token {
-        [b'*', digits @ ..] => Some((last?, text::number(digits)?.checked_sub(1)?)),
+        [b'*', digits @ ..] => Some((last?, text::read_number(digits)?.checked_sub(1)?)),
         [high, low] => Some((byte(*high, *low)?, 1)),
         _ => None,
     }

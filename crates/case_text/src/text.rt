@@ -15,9 +15,17 @@ pub fn split_at(text: &[u8], byte: u8) -> (&[u8], &[u8])
     }
 }
 
+// The number that decimal digits say; 0 for text that is no number below 100,000.
+pub fn number(digits: &[u8]) -> usize
+    ensures below { result < 100000 }
+    ensures shown { (n : ℕ) → n < 100000 → digits.now ≡ decimal n → result ≡ n }
+{
+    read_number(digits).map_or(0, |n| n as usize)
+}
+
 // The number that decimal digits say; none for text that is no number below 100,000.
 #[tactic(auto, using(crate::proofs::Decimal::decimals))]
-pub fn number(digits: &[u8]) -> Option<u32>
+pub fn read_number(digits: &[u8]) -> Option<u32>
     ensures below { IfSome result (λ n. n < 100000) }
     ensures shown { (n : ℕ) → n < 100000 → digits.now ≡ decimal n → result ≡ Some n }
 {

@@ -15,7 +15,7 @@ fn part(case: &[u8], i: usize, byte: u8) -> &[u8] {
 pub fn number(case: &[u8], i: usize) -> u32
     ensures { result < 100000 }
 {
-    text::number(part(case, i, b' ')).unwrap_or(0)
+    text::number(part(case, i, b' ')) as u32
 }
 
 // The bytes of part `i`, from 1, put at the start of the room: those of a book's sign, or those in hex; none for text that
