@@ -1,8 +1,7 @@
 -- A mask that is lent as a list of blocks: its own checks, and what narrow promises of it.
 -- Assumes nothing.
-use Rattle.std.proofs.Common.{◌≡◌, ℕ, false, ◌+◌, ◌^◌, ◌≤◌, ◌<◌, Some, Result, Ok, Err, List, [], ◌∷◌, ◌++◌, length, take, drop, ap, refl, ◌∙◌, arith, length-append, length-drop, lt-ltb, le-ltb}
+use Rattle.std.proofs.Common.{◌≡◌, ℕ, false, ◌+◌, ◌^◌, ◌≤◌, ◌<◌, Some, Result, Ok, Err, List, [], ◌∷◌, length, take, ap, ◌∙◌, arith, lt-ltb, le-ltb}
 use Rattle.std.proofs.lemmas.Nat.{le_or_l, le_or_r}
-use lib.Seq.{take_at}
 use Rattle.model.specs.declared.Block.{Block}
 use Rattle.model.specs.declared.Refusal.{Refusal}
 use Rattle.model.specs.declared.Refusal.TheVariants.{OutOfRange, Foreign}
@@ -53,37 +52,33 @@ module _ (bs : List ℕ) (xs : List Block) (few : length xs ≤ 1024) (b : Book)
     pub list_read : given_refusal (from_list bs xs) ≡ refuse (some_from t.used b.table.letters) Foreign accepted
     list_read = letters_decide (from_list bs xs) read.0 (list_checks ∙ passed.0) b read.1 t passed.1
 
-    -- nothing refuses it: it is ready for the passes
-    module _ (small : t.used < 2 ^ 64) (own : refuse (some_from t.used b.table.letters) Foreign accepted ≡ accepted) where
-      pub list_ready : (blocks_refusal xs ≡ accepted) × (t ≡ totals_of xs) × (foreign b.table.letters xs ≡ false) × Fits b.table.letters xs
+    -- nothing refuses it
+    module _ (own : refuse (some_from t.used b.table.letters) Foreign accepted ≡ accepted) where
+      -- where its sets are numbers of 8 bytes, it is ready for the passes
+      pub list_ready : (blocks_refusal xs ≡ accepted) × (t ≡ totals_of xs) × (foreign b.table.letters xs ≡ false)
+          × (t.used < 2 ^ 64 → Fits b.table.letters xs)
       list_ready =
           let same = ap (λ (x : Totals). x.used) passed.1 in
           let letters = rw (same, used_foreign) at (peel _ _ _ own).0 in
-          (passed.0, passed.1, letters, blocks_fit b.table.letters xs (wide_sets 0 xs (rw same at small)).1 few passed.0 letters)
+          (passed.0, passed.1, letters, λ small. blocks_fit b.table.letters xs (wide_sets 0 xs (rw same at small)).1 few passed.0 letters)
 
-      -- it is copied into the first entries of a room
-      module _ (copy rest : List Block) (copied : copy ≡ xs) where
-        first_blocks : take (length xs) (copy ++ rest) ≡ xs
-        first_blocks = rw copied (take_at xs rest (length xs) refl)
-
-        -- these are ready for the passes too
-        pub copy_ready : Fits b.table.letters (take (length xs) (copy ++ rest))
-        copy_ready = rw first_blocks list_ready.3
-
-        -- and what narrow promises of these it promises of the list
+      -- a room begins with it
+      module _ (room : List Block) (copied : take (length xs) room ≡ xs) where
+        -- what narrow promises of these blocks it promises of the list
         pub copy_promised : (old new : List ℕ) (a : Result Narrowed Refusal)
-            → NarrowsGiven (automaton b) (take (length xs) (copy ++ rest)) old new a → Narrows (from_list bs xs) old new a
-        copy_promised old new a h = h (from_list bs xs) (list_read ∙ own) read.1 first_blocks
+            → NarrowsGiven (automaton b) (take (length xs) room) old new a → Narrows (from_list bs xs) old new a
+        copy_promised old new a h = h (from_list bs xs) (list_read ∙ own) read.1 copied
 
-      -- a room of the largest size, into whose first entries it is copied, is large enough for these
-      pub copy_lent : (copy room : List Block) (copied : copy ≡ xs) (sets : List ℕ) → length room ≡ 2048 → 1024 ≤ length sets
-          → let ys = copy ++ drop (length xs) room in
-          (uppers (take (length xs) ys) + length xs ≤ length ys) × (uppers (take (length xs) ys) ≤ length sets)
-      copy_lent copy room copied sets h l =
-          let sum = list_ready.3.room.sum in
-          let rest = drop (length xs) room in
-          rw (first_blocks copy rest copied)
-          (omega (arith, few, sum, h, ap length copied, length-append copy rest, length-drop (length xs) room), omega (arith, sum, l))
+        -- they are ready for the passes too
+        pub copy_ready : t.used < 2 ^ 64 → Fits b.table.letters (take (length xs) room)
+        copy_ready small = rw copied (list_ready.3 small)
+
+        -- and a room of the largest size is large enough for them
+        pub copy_lent : t.used < 2 ^ 64 → (sets : List ℕ) → length room ≡ 2048 → 1024 ≤ length sets
+            → (uppers (take (length xs) room) + length xs ≤ length room) × (uppers (take (length xs) room) ≤ length sets)
+        copy_lent small sets h l =
+            let sum = (list_ready.3 small).room.sum in
+            rw copied (omega (arith, few, sum, h), omega (arith, sum, l))
 
 -- ---- the checks that come before its own 7 and 8
 

@@ -1,6 +1,7 @@
 // The operations of document 01 on records. What they answer, write and mean stands in specs/.
 #![tactic(auto)]
 
+ghost use Rattle.std.specs.Prelude.{◌≡◌, ◌≤◌, length, take};
 ghost use Rattle.operations.specs.Pair.{from_record, from_list};
 ghost use Rattle.operations.specs.Narrow.{Narrows};
 ghost use Rattle.operations.specs.Placed.{Places};
@@ -45,6 +46,15 @@ pub fn narrow(book: &[u8], mask: &[u8], out: &mut [u8]) -> Result<Narrowed, Refu
     narrow_sized::<1024, 2048>(pair, out)
 }
 
+// Copies blocks over the first entries of a room.
+fn copy_blocks(blocks: &[Block], room: &mut [Block])
+    requires { length blocks.now ≤ length room.old }
+    ensures copied { take (length blocks.now) room.new ≡ blocks.now }
+    ensures size { length room.new ≡ length room.old }
+{
+    room[..blocks.len()].copy_from_slice(blocks);
+}
+
 // Narrow on a mask that is lent as a list of blocks. Book checks, 4, 7, 8, 9, 10.
 pub fn narrow_list(book: &[u8], blocks: &[Block], out: &mut [u8]) -> Result<Narrowed, Refusal>
     ensures { Narrows (from_list book.now blocks.now) out.old out.new result }
@@ -58,7 +68,7 @@ pub fn narrow_list(book: &[u8], blocks: &[Block], out: &mut [u8]) -> Result<Narr
     check_letters(book, totals)?;
     let mut room = [Block::EMPTY; 2048];
     let mut sets = [0u64; 1024];
-    room[..count].copy_from_slice(blocks);
+    copy_blocks(blocks, &mut room);
     narrow_blocks(book, &mut room, count, &mut sets, out)
 }
 

@@ -36,18 +36,18 @@ narrow_blocks-requires-clause-fits c =
     let book = rw c.in_ok-book.was at c.read_book.ensures in
     let totals = sym c.check_blocks.ensures ∙ c.in_ok-totals.was in
     let (own, _) = unless_ok _ _ _ (sym c.check_letters.ensures ∙ c.in_ok-check_letters.was) in
-    copy_ready _ _ (omega arith) c.in_ok-book.book book _ totals (omega arith) own _ _ c.copy_from_slice.ensures.after
+    copy_ready _ _ (omega arith) c.in_ok-book.book book _ totals own _ c.copy_blocks.ensures.copied (omega arith)
 
 pub narrow_blocks-requires-clause-lent : goal.narrow_blocks-requires-clause-lent
 narrow_blocks-requires-clause-lent c =
     let book = rw c.in_ok-book.was at c.read_book.ensures in
     let totals = sym c.check_blocks.ensures ∙ c.in_ok-totals.was in
     let (own, _) = unless_ok _ _ _ (sym c.check_letters.ensures ∙ c.in_ok-check_letters.was) in
-    copy_lent _ _ (omega arith) c.in_ok-book.book book _ totals (omega arith) own _ _ c.copy_from_slice.ensures.after (replicate 1024 0) (length-replicate 2048 (block 0 0 0)) (lit≤ tt)
+    copy_lent _ _ (omega arith) c.in_ok-book.book book _ totals own _ c.copy_blocks.ensures.copied (omega arith) (replicate 1024 0) (c.copy_blocks.ensures.size ∙ length-replicate 2048 (block 0 0 0)) (lit≤ tt)
 
 pub returns : goal.returns
 returns c =
     let book = rw c.in_ok-book.was at c.read_book.ensures in
     let totals = sym c.check_blocks.ensures ∙ c.in_ok-totals.was in
     let (own, _) = unless_ok _ _ _ (sym c.check_letters.ensures ∙ c.in_ok-check_letters.was) in
-    copy_promised _ _ (omega arith) c.in_ok-book.book book _ totals (omega arith) own _ _ c.copy_from_slice.ensures.after _ _ _ c.narrow_blocks.ensures
+    copy_promised _ _ (omega arith) c.in_ok-book.book book _ totals own _ c.copy_blocks.ensures.copied _ _ _ c.narrow_blocks.ensures
